@@ -10,7 +10,7 @@ ghost use Rattle.alog_ffi.specs.Answers.{number_of};
 ghost use Rattle.alog_ffi.specs.Calls.{AnswersDump, AnswersEnd, AnswersFind, AnswersFlush, AnswersGive, AnswersLog, AnswersSetLevel, AnswersWork, MakesProducer, MakesWorker, OnProducer, OnWorker};
 ghost use Rattle.alog_ffi.specs.Files.{AnswersClose, AnswersFound, AnswersTake, IsUntaken, OnFiles};
 ghost use Rattle.alog_ffi.specs.Handles.{held};
-ghost use Rattle.alog_ffi.specs.Opening.{AnswersOpen};
+ghost use Rattle.alog_ffi.specs.Opening.{AnswersOpen, TellsWhy};
 ghost use Rattle.alog_c.specs.Says.{Says};
 ghost use Rattle.alog_ffi.specs.declared.answer.Answer.{Answer};
 ghost use Rattle.alog_ffi.specs.declared.said.Said.{Said};
@@ -40,7 +40,8 @@ pub extern "C" fn alog_c_open(
     told_len: &mut usize,
 ) -> u32
     ensures { (a : Answer) × (result ≡ number_of a)
-        × AnswersOpen (held pool.old) (held files.old) (record { document = document.entry; producers = producers; areas = areas }) a (held pool.new) (held files.new) }
+        × AnswersOpen (held pool.old) (held files.old) (record { document = document.entry; producers = producers; areas = areas }) a (held pool.new) (held files.new)
+        × TellsWhy told.old told.new told_len.new a }
 {
     let asked = Asked {
         document,
@@ -116,7 +117,7 @@ pub extern "C" fn alog_c_log(
     ticket: &mut u64,
 ) -> u32
     ensures { (a : Answer) × (said : Said) × (result ≡ number_of a) × Says logger level time text.now None said
-        × OnProducer (held producer.old) (AnswersLog said ticket.old ticket.new) a (held producer.new) }
+        × OnProducer (held producer.old) (ticket.new ≡ ticket.old) (AnswersLog said ticket.old ticket.new) a (held producer.new) }
 {
     let said = Said {
         logger,
@@ -144,7 +145,7 @@ pub extern "C" fn alog_c_log_source(
 ) -> u32
     ensures { (a : Answer) × (said : Said) × (result ≡ number_of a)
         × Says logger level time text.now (Some (record { file = file.entry; line = line; function = function.entry })) said
-        × OnProducer (held producer.old) (AnswersLog said ticket.old ticket.new) a (held producer.new) }
+        × OnProducer (held producer.old) (ticket.new ≡ ticket.old) (AnswersLog said ticket.old ticket.new) a (held producer.new) }
 {
     let said = Said {
         logger,
@@ -169,7 +170,7 @@ pub extern "C" fn alog_c_flush(
     ticket: &mut u64,
 ) -> u32
     ensures { (a : Answer) × (result ≡ number_of a)
-        × OnProducer (held producer.old) (AnswersFlush logger ticket.old ticket.new) a (held producer.new) }
+        × OnProducer (held producer.old) (ticket.new ≡ ticket.old) (AnswersFlush logger ticket.old ticket.new) a (held producer.new) }
 {
     alog_ffi::flush(alloc, producer, logger, ticket).number()
 }
@@ -184,7 +185,7 @@ pub extern "C" fn alog_c_dump(
     posts: &mut usize,
 ) -> u32
     ensures { (a : Answer) × (result ≡ number_of a)
-        × OnProducer (held producer.old) (AnswersDump logger time posts.new) a (held producer.new) }
+        × OnProducer (held producer.old) (posts.new ≡ 0) (AnswersDump logger time posts.new) a (held producer.new) }
 {
     alog_ffi::dump(alloc, producer, logger, time, posts).number()
 }
@@ -197,7 +198,7 @@ pub extern "C" fn alog_c_work(
     most: usize,
     items: &mut usize,
 ) -> u32
-    ensures { (a : Answer) × (result ≡ number_of a) × OnWorker (held worker.old) (AnswersWork most items.new) a (held worker.new) }
+    ensures { (a : Answer) × (result ≡ number_of a) × OnWorker (held worker.old) (items.new ≡ 0) (AnswersWork most items.new) a (held worker.new) }
 {
     alog_ffi::work(alloc, worker, most, items).number()
 }

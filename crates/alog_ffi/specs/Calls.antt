@@ -26,21 +26,21 @@ use Rattle.alog_registry.specs.declared.logger.Logger.{Logger}
 use Rattle.alog_registry.specs.declared.logging.LogReply.TheVariants as reply
 
 -- A call on what a handle held, by what kind it is to hold, with what it answers and what the handle holds then. Where it held nothing, or another
--- kind, that is the answer, and the handle holds what it held.
+-- kind, that is the answer, the handle holds what it held, and nothing is told beside.
 abbrev pub OnPool : Part → (OwnedPoolView OutboxView → Answer → OwnedPoolView OutboxView → Type 0) → Answer → Part → Type 0
 OnPool (Pool p) f a new = (q : OwnedPoolView OutboxView) × (new ≡ Pool q) × f p a q
 OnPool Nothing f a new = (new ≡ Nothing) × (a ≡ answer.NoHandle)
 OnPool old f a new = (new ≡ old) × (a ≡ answer.WrongHandle)
 
-abbrev pub OnProducer : Part → (OwnedProducerView OutboxView → Answer → OwnedProducerView OutboxView → Type 0) → Answer → Part → Type 0
-OnProducer (Producer p) f a new = (q : OwnedProducerView OutboxView) × (new ≡ Producer q) × f p a q
-OnProducer Nothing f a new = (new ≡ Nothing) × (a ≡ answer.NoHandle)
-OnProducer old f a new = (new ≡ old) × (a ≡ answer.WrongHandle)
+abbrev pub OnProducer : Part → Type 0 → (OwnedProducerView OutboxView → Answer → OwnedProducerView OutboxView → Type 0) → Answer → Part → Type 0
+OnProducer (Producer p) untold f a new = (q : OwnedProducerView OutboxView) × (new ≡ Producer q) × f p a q
+OnProducer Nothing untold f a new = (new ≡ Nothing) × (a ≡ answer.NoHandle) × untold
+OnProducer old untold f a new = (new ≡ old) × (a ≡ answer.WrongHandle) × untold
 
-abbrev pub OnWorker : Part → (OwnedWorkerView OutboxView → Answer → OwnedWorkerView OutboxView → Type 0) → Answer → Part → Type 0
-OnWorker (Worker w) f a new = (v : OwnedWorkerView OutboxView) × (new ≡ Worker v) × f w a v
-OnWorker Nothing f a new = (new ≡ Nothing) × (a ≡ answer.NoHandle)
-OnWorker old f a new = (new ≡ old) × (a ≡ answer.WrongHandle)
+abbrev pub OnWorker : Part → Type 0 → (OwnedWorkerView OutboxView → Answer → OwnedWorkerView OutboxView → Type 0) → Answer → Part → Type 0
+OnWorker (Worker w) untold f a new = (v : OwnedWorkerView OutboxView) × (new ≡ Worker v) × f w a v
+OnWorker Nothing untold f a new = (new ≡ Nothing) × (a ≡ answer.NoHandle) × untold
+OnWorker old untold f a new = (new ≡ old) × (a ≡ answer.WrongHandle) × untold
 
 -- what is told of what was posted; else what was there stays
 abbrev pub ticket_by : Outcome (Unit {0}) → ℕ → ℕ
@@ -111,13 +111,13 @@ IsWithout at answer.NoHandle = at ≡ Nothing
 IsWithout at answer.WrongHandle = (at ≢ Nothing) × (loggers_of at ≡ None)
 IsWithout at a = ⊥
 
--- A logger of this name was found, or why none was; else what was there stays.
+-- A logger of this name was found, or why none was, the first reason; else what was there stays.
 abbrev pub AnswersFind : Part → List ℕ → ℕ → ℕ → Answer → Type 0
 AnswersFind at name was told answer.Done = (ls : List Logger) × (loggers_of at ≡ Some ls) × (name_at ls told ≡ Some name)
 AnswersFind at name was told answer.NoLogger =
-    (told ≡ was) × ((ls : List Logger) × (loggers_of at ≡ Some ls) × ((n : ℕ) → name_at ls n ≢ Some name))
+    (told ≡ was) × IsUtf8 name × ((ls : List Logger) × (loggers_of at ≡ Some ls) × ((n : ℕ) → name_at ls n ≢ Some name))
 AnswersFind at name was told answer.NotUtf8 = (told ≡ was) × ¬ IsUtf8 name
-AnswersFind at name was told a = (told ≡ was) × IsWithout at a
+AnswersFind at name was told a = (told ≡ was) × IsUtf8 name × IsWithout at a
 
 -- the level of a logger was set, or why none was
 abbrev pub AnswersSetLevel : Part → ℕ → ℕ → Answer → Type 0

@@ -7,6 +7,7 @@ use Rattle.alog_ffi.specs.declared.answer.Answer.{Answer}
 use Rattle.alog_ffi.specs.declared.answer.Answer.TheVariants as answer
 use Rattle.alog_ffi.specs.declared.part.Part.{Part}
 use Rattle.alog_ffi.specs.declared.part.Part.TheVariants.{Nothing, Found, Files}
+use Rattle.alog_outbox.specs.Calls.{AreRecords}
 use Rattle.alog_outbox.specs.Views.{DrainView}
 use Rattle.alog_outbox.specs.declared.TheConstants.{AREA}
 use Rattle.alog_outbox.specs.declared.found.FoundFile.{FoundFile}
@@ -32,7 +33,7 @@ AddsFile old name size a new = (new ≡ old) × (a ≡ answer.WrongHandle)
 
 -- A file was told; or it was not, which is the answer, and the handle holds what it held.
 abbrev pub AnswersFound : Part → List ℕ → ℕ → Answer → Part → Type 0
-AnswersFound old name size a new = ((a ≡ answer.NotUtf8) × (new ≡ old) × ¬ IsUtf8 name) ⊎ AddsFile old name size a new
+AnswersFound old name size a new = ((a ≡ answer.NotUtf8) × (new ≡ old) × ¬ IsUtf8 name) ⊎ (IsUtf8 name × AddsFile old name size a new)
 
 -- A call on what is to be done to files, and what is untouched where there is none of that.
 abbrev pub OnFiles : Part → Type 0 → (List DrainView → Answer → List DrainView → Type 0) → Answer → Part → Type 0
@@ -54,9 +55,10 @@ pub record TakesOne (old : List DrainView) (bytes : List ℕ) (new : List DrainV
 abbrev pub IsUntaken : List ℕ → List ℕ → ℕ → Type 0
 IsUntaken to into count = (into ≡ to) × (count ≡ 0)
 
--- Bytes were taken, and lie at the front of the memory, whose rest is as it was.
+-- Whole records were taken, and lie at the front of the memory, whose rest is as it was.
 abbrev pub AreTaken : List ℕ → List ℕ → ℕ → List DrainView → List DrainView → Type 0
-AreTaken to into count old new = TakesOne old (take count into) new × (drop count into ≡ drop count to) × (0 < count) × (count ≤ AREA)
+AreTaken to into count old new =
+    TakesOne old (take count into) new × AreRecords (take count into) × (drop count into ≡ drop count to) × (0 < count) × (count ≤ AREA)
 
 -- Bytes were taken; or there are none now; or the memory has no room for an area.
 abbrev pub AnswersTake : List ℕ → List ℕ → ℕ → List DrainView → Answer → List DrainView → Type 0

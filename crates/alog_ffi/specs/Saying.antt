@@ -1,5 +1,5 @@
 -- What a producer logs of what was said.
-use Rattle.std.specs.Prelude.{◌≡◌, ◌⊎◌, ◌<◌, ◌≤◌, ℕ, ℤ, List, length, Some, Result, Ok, Err, Vec}
+use Rattle.std.specs.Prelude.{◌≡◌, ◌≢◌, ◌⊎◌, ◌<◌, ◌≤◌, ℕ, ℤ, List, length, slice_get, Some, Result, Ok, Err, Vec}
 use Rattle.std.specs.declared.alloc.Global.{Global}
 use Rattle.alog_ffi.specs.Answers.{answer_of_refusal}
 use Rattle.alog_ffi.specs.Said.{IsHeard, IsUnheard}
@@ -9,13 +9,16 @@ use Rattle.alog_ffi.specs.declared.said.Heard.{Heard}
 use Rattle.alog_ffi.specs.declared.said.Said.{Said}
 use Rattle.alog_hosted.specs.Once.{IsBlockedOrSpent, IsLoggedUnread, LogsOnce}
 use Rattle.alog_hosted.specs.declared.once.Once.{Once}
+use Rattle.alog_lane.specs.declared.seat.TheConstants.{ALL_PARTS}
 use Rattle.alog_msg.specs.declared.item.Item.TheVariants.{Flush}
 use Rattle.alog_msg.specs.declared.message.MessageError.{MessageError}
+use Rattle.alog_msg.specs.declared.message.MessageError.TheVariants as message
 use Rattle.alog_owned.specs.Owned.{OwnedProducerView}
 use Rattle.alog_policy.specs.Progress.{without_waiting}
 use Rattle.alog_policy.specs.SwapPort.{SwapDid}
 use Rattle.alog_policy.specs.declared.policy.Outcome.{Outcome}
 use Rattle.alog_policy.specs.declared.policy.Policy.TheVariants as under
+use Rattle.alog_pool.specs.BacktraceSeat.{BacktraceSeatView}
 use Rattle.alog_pool.specs.Producer.{IsPortOf, IsSame, Lent}
 use Rattle.alog_registry.specs.Backtrace.{Room}
 use Rattle.alog_registry.specs.BlockPort.{BlockPort}
@@ -44,13 +47,14 @@ module _ {S : Type 0} where
     pub within : (s : Spec) → spec_at old.hosted.shared.loggers heard.logger ≡ Some s
         → IsLoggedUnread s once ⊎ IsWithin old.producer.limit heard.text.now heard.source
 
-  -- It was heard and then refused for this reason.
+  -- It was heard and then refused for this reason, want of memory only by a logger with a backtrace.
   pub record WasRefused (old : OwnedProducerView S) (said : Said) (a : Answer) : Type 0 where
     pub heard : Heard
     pub is : IsHeard old.hosted.shared.loggers said heard
     pub error : MessageError
     pub told : a ≡ answer_of_refusal error
     pub reason : IsReason old.producer.limit heard.text.now heard.source error
+    pub memory : (s : Spec) → spec_at old.hosted.shared.loggers heard.logger ≡ Some s → error ≡ message.OutOfMemory → s.backtrace ≢ 0
 
   -- It logged what was said, or nothing was done, and this is why.
   abbrev pub LogsSo : OwnedProducerView S → Said → Result Once Answer → OwnedProducerView S → Type 0
@@ -76,10 +80,12 @@ module _ {S : Type 0} where
         → Lent old.producer new.producer number (λ p k q l. (d : Room) × DumpsByTurn k d l
         × PostsEach SwapDid (without_waiting s.policy) (posted_of number time old.producer.number d.messages) p outcomes q)
 
-  -- Why nothing was dumped: there is no such logger, or there is, and another thread has its backtrace, or there is no memory.
+  -- Why nothing was dumped: there is no such logger, or there is, and another thread has its backtrace, which is said only where the producer's seat at it
+  -- has not all parts, or there is no memory.
   abbrev pub IsUndumped : OwnedProducerView S → ℕ → Answer → Type 0
   IsUndumped old number answer.NoLogger = length old.hosted.shared.loggers ≤ number
-  IsUndumped old number answer.Held = number < length old.hosted.shared.loggers
+  IsUndumped old number answer.Held = (number < length old.hosted.shared.loggers)
+      × ((k : BacktraceSeatView) → slice_get old.producer.backtrace_seats number ≡ Some k → k.seat.known.parts ≢ ALL_PARTS)
   IsUndumped old number answer.NoMemory = number < length old.hosted.shared.loggers
   IsUndumped old number a = ⊥
 

@@ -2,10 +2,9 @@
 ghost use Rattle.std.specs.Prelude.{◌≡◌, length, Ok, IfOk, IfErr};
 ghost use Rattle.std.specs.Arc.{arc_value};
 ghost use Rattle.alog_config.specs.Meaning.{Reads};
-ghost use Rattle.alog_ffi.specs.Opening.{AreNew, IsUnopenedFor, OpensFrom, told_as};
+ghost use Rattle.alog_ffi.specs.Opening.{AreNew, IsUnopenedFor, OpensFrom, answer_of};
 ghost use Rattle.alog_pool.specs.Pool.{Fits};
 
-use crate::answer::Answer;
 use alog_config::{BuildError, Config, ConfigFault, explain, explain_unopened, leaves, read};
 use alog_outbox::{Drain, FoundFile, Outbox, outbox};
 use alog_owned::OwnedPool;
@@ -30,35 +29,15 @@ pub(crate) struct Opened {
     pub(crate) drains: Vec<Drain>,
 }
 
-/// Why no pool was opened, and in words what its configuration lacks, where that is the reason.
+/// Why no pool was opened, and where its configuration is the reason in words what that lacks.
 #[derive(Drop)]
-pub(crate) struct Refusal {
-    pub(crate) answer: Answer,
-    pub(crate) words: Option<String>,
-}
-
-impl Refusal {
-    fn of(answer: Answer) -> Refusal
-        ensures { result.answer ≡ answer }
-    {
-        Refusal {
-            answer,
-            words: None,
-        }
-    }
-
-    /// With these words, if there was memory for them.
-    fn with(answer: Answer, words: Result<String, AllocError>) -> Refusal
-        ensures { result.answer ≡ told_as answer words }
-    {
-        match words {
-            Ok(words) => Refusal {
-                answer,
-                words: Some(words),
-            },
-            Err(_) => Refusal::of(Answer::NoMemory),
-        }
-    }
+pub(crate) enum Refusal {
+    /// There is no memory, for the pool or for the words.
+    NoMemory,
+    /// The document is no configuration.
+    BadConfig(String),
+    /// The size of a sink's file could not be told.
+    NoStore(String),
 }
 
 /// Opens a pool of the configuration that this document says, over a folder in which these files were found.
@@ -68,14 +47,16 @@ pub(crate) fn open(
     found: &Arc<Vec<FoundFile>>,
 ) -> Result<Opened, Refusal>
     ensures opened { IfOk result (λ o. OpensFrom asked.entry (arc_value found.now).items o.pool o.drains.items) }
-    ensures refused { IfErr result (λ r. IsUnopenedFor asked.entry r.answer) }
+    ensures refused { IfErr result (λ r. IsUnopenedFor asked.entry (arc_value found.now).items (answer_of r)) }
 {
     let config = match read(alloc, asked.document) {
         Ok(config) => config,
-        Err(ConfigFault::OutOfMemory) => return Err(Refusal::of(Answer::NoMemory)),
+        Err(ConfigFault::OutOfMemory) => return Err(Refusal::NoMemory),
         Err(fault) => {
-            let words = explain(alloc, asked.document, fault);
-            return Err(Refusal::with(Answer::BadConfig, words));
+            return match explain(alloc, asked.document, fault) {
+                Ok(words) => Err(Refusal::BadConfig(words)),
+                Err(_) => Err(Refusal::NoMemory),
+            };
         }
     };
     open_configured(alloc, &config, asked, found)
@@ -90,22 +71,24 @@ fn open_configured(
 ) -> Result<Opened, Refusal>
     requires { Reads asked.document.now (Ok config.now) }
     ensures opened { IfOk result (λ o. OpensFrom asked.entry (arc_value found.now).items o.pool o.drains.items) }
-    ensures refused { IfErr result (λ r. IsUnopenedFor asked.entry r.answer) }
+    ensures refused { IfErr result (λ r. IsUnopenedFor asked.entry (arc_value found.now).items (answer_of r)) }
 {
     let Ok((stores, drains)) = stores(alloc, found, asked.areas, leaves(config)) else {
-        return Err(Refusal::of(Answer::NoMemory));
+        return Err(Refusal::NoMemory);
     };
     let setup = match setup_of(alloc, config, stores, 0) {
         Ok(setup) => setup,
-        Err(BuildError::OutOfMemory) => return Err(Refusal::of(Answer::NoMemory)),
+        Err(BuildError::OutOfMemory) => return Err(Refusal::NoMemory),
         Err(BuildError::Store { sink, reason }) => {
-            let words = explain_unopened(alloc, config, sink, reason);
-            return Err(Refusal::with(Answer::NoStore, words));
+            return match explain_unopened(alloc, config, sink, reason) {
+                Ok(words) => Err(Refusal::NoStore(words)),
+                Err(_) => Err(Refusal::NoMemory),
+            };
         }
     };
     match OwnedPool::open(alloc, setup, asked.producers) {
         Ok(pool) => Ok(Opened { pool, drains }),
-        Err(_) => Err(Refusal::of(Answer::NoMemory)),
+        Err(_) => Err(Refusal::NoMemory),
     }
 }
 

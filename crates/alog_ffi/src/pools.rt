@@ -1,9 +1,10 @@
 //! Calls on the handle of a pool: how it is opened, what it makes, and how it ends.
 ghost use Rattle.std.specs.Prelude.{◌≡◌, ◌≢◌, IfOk, IfErr};
+ghost use Rattle.alog_ffi.specs.Answers.{answer_by};
 ghost use Rattle.std.specs.Mem.{manually_drop_value};
 ghost use Rattle.alog_ffi.specs.Calls.{AnswersEnd, AnswersProducer, AnswersWorker, MakesProducer, MakesWorker};
 ghost use Rattle.alog_ffi.specs.Handles.{held};
-ghost use Rattle.alog_ffi.specs.Opening.{AnswersOpen, IsUnopenedFor, OpensFrom};
+ghost use Rattle.alog_ffi.specs.Opening.{AnswersOpen, HasWords, IsUnopenedFor, OpensFrom, TellsWhy};
 ghost use Rattle.alog_ffi.specs.declared.answer.Answer.TheVariants as answer;
 ghost use Rattle.alog_ffi.specs.declared.part.Part.TheVariants.{Files, Nothing, Pool};
 
@@ -30,7 +31,8 @@ pub fn open(
     told: &mut [u8],
     told_len: &mut usize,
 ) -> Answer
-    ensures { AnswersOpen (held pool.old) (held files.old) asked.entry result (held pool.new) (held files.new) }
+    ensures answers { AnswersOpen (held pool.old) (held files.old) asked.entry result (held pool.new) (held files.new) }
+    ensures told { TellsWhy told.old told.new told_len.new result }
 {
     *told_len = 0;
     if !pool.is_empty() {
@@ -51,8 +53,10 @@ fn open_first(
     told: &mut [u8],
     told_len: &mut usize,
 ) -> Answer
-    requires { (held pool.old ≡ Nothing) × (held files.old ≡ Nothing) }
-    ensures { AnswersOpen Nothing Nothing asked.entry result (held pool.new) (held files.new) }
+    requires empty { (held pool.old ≡ Nothing) × (held files.old ≡ Nothing) }
+    requires untold { told_len.old ≡ 0 }
+    ensures answers { AnswersOpen Nothing Nothing asked.entry result (held pool.new) (held files.new) }
+    ensures told { TellsWhy told.old told.new told_len.new result }
 {
     let (Ok(at), Ok(part)) = (room(alloc), room(alloc)) else {
         return Answer::NoMemory;
@@ -79,7 +83,9 @@ fn open_after(
 ) -> Answer
     requires empty { (held pool.old ≡ Nothing) × (held files.old ≡ Nothing) }
     requires part { manually_drop_value part.value ≢ Nothing }
-    ensures { AnswersOpen Nothing (manually_drop_value part.value) asked.entry result (held pool.new) (held files.new) }
+    requires untold { told_len.old ≡ 0 }
+    ensures answers { AnswersOpen Nothing (manually_drop_value part.value) asked.entry result (held pool.new) (held files.new) }
+    ensures told { TellsWhy told.old told.new told_len.new result }
 {
     let (own, answer) = match out(&mut part) {
         Part::Found(mut found) => match room(alloc) {
@@ -107,20 +113,25 @@ fn open_over(
     told: &mut [u8],
     told_len: &mut usize,
 ) -> Result<Opened, Answer>
+    requires { told_len.old ≡ 0 }
     ensures same { found.new ≡ found.old }
     ensures opened { IfOk result (λ o. OpensFrom asked.entry found.old o.pool o.drains.items) }
-    ensures refused { IfErr result (IsUnopenedFor asked.entry) }
+    ensures refused { IfErr result (IsUnopenedFor asked.entry found.old) }
+    ensures told { TellsWhy told.old told.new told_len.new (answer_by (λ _. answer.Done) result) }
 {
     let Ok(files) = found.share(alloc) else {
         return Err(Answer::NoMemory);
     };
     match open_pool(alloc, asked, &files) {
         Ok(opened) => Ok(opened),
-        Err(Refusal { answer, words }) => {
-            if let Some(words) = &words {
-                *told_len = copy(words.as_bytes(), told);
-            }
-            Err(answer)
+        Err(Refusal::NoMemory) => Err(Answer::NoMemory),
+        Err(Refusal::BadConfig(words)) => {
+            *told_len = copy(words.as_str(), told);
+            Err(Answer::BadConfig)
+        }
+        Err(Refusal::NoStore(words)) => {
+            *told_len = copy(words.as_str(), told);
+            Err(Answer::NoStore)
         }
     }
 }
@@ -138,8 +149,11 @@ fn lay(opened: Opened, pool: &mut AlogHandle, mut at: Held, files: &mut AlogHand
     files.put(part);
 }
 
-/// Copies as many bytes as there is room for, and answers how many.
-fn copy(from: &[u8], to: &mut [u8]) -> usize {
+/// Copies as many bytes as there is room for to the front, and answers how many.
+fn copy(from: &str, to: &mut [u8]) -> usize
+    ensures { HasWords to.old to.new result }
+{
+    let from = from.as_bytes();
     let count = from.len().min(to.len());
     to[..count].copy_from_slice(&from[..count]);
     count

@@ -78,7 +78,7 @@ pub fn set_level(alloc: Global, at: &mut AlogHandle, logger: u32, level: u32) ->
 
 /// Logs what was said by a producer. Where it was posted, its ticket is told.
 pub fn log(alloc: Global, at: &mut AlogHandle, said: Said<'_>, ticket: &mut u64) -> Answer
-    ensures { OnProducer (held at.old) (AnswersLog said.entry ticket.old ticket.new) result (held at.new) }
+    ensures { OnProducer (held at.old) (ticket.new ≡ ticket.old) (AnswersLog said.entry ticket.old ticket.new) result (held at.new) }
 {
     let Some(mut part) = at.take(alloc) else {
         return Answer::NoHandle;
@@ -122,7 +122,7 @@ fn tell(outcome: &Outcome<()>, to: &mut u64)
 
 /// Posts a flush of a logger by a producer. Where it was posted, its ticket is told.
 pub fn flush(alloc: Global, at: &mut AlogHandle, logger: u32, ticket: &mut u64) -> Answer
-    ensures { OnProducer (held at.old) (AnswersFlush logger ticket.old ticket.new) result (held at.new) }
+    ensures { OnProducer (held at.old) (ticket.new ≡ ticket.old) (AnswersFlush logger ticket.old ticket.new) result (held at.new) }
 {
     let Some(mut part) = at.take(alloc) else {
         return Answer::NoHandle;
@@ -151,7 +151,7 @@ fn flush_by(producer: &mut OwnedProducer<Outbox>, logger: u32, ticket: &mut u64)
 /// Posts what the backtrace of a logger kept, by a producer: a marker, the messages, oldest first, and a marker; nothing where nothing was kept. It tells
 /// how many posts it made, none where it is refused. It never waits: where another thread is at the backtrace, nothing is done.
 pub fn dump(alloc: Global, at: &mut AlogHandle, logger: u32, time: i64, posts: &mut usize) -> Answer
-    ensures { OnProducer (held at.old) (AnswersDump logger time posts.new) result (held at.new) }
+    ensures { OnProducer (held at.old) (posts.new ≡ 0) (AnswersDump logger time posts.new) result (held at.new) }
 {
     *posts = 0;
     let Some(mut part) = at.take(alloc) else {

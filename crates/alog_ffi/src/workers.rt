@@ -10,7 +10,7 @@ use std::alloc::Global;
 
 /// Lets a worker write the lines of up to so many items, and tells how many it ended, none where it is refused.
 pub fn work(alloc: Global, at: &mut AlogHandle, most: usize, items: &mut usize) -> Answer
-    ensures { OnWorker (held at.old) (AnswersWork most items.new) result (held at.new) }
+    ensures { OnWorker (held at.old) (items.new ≡ 0) (AnswersWork most items.new) result (held at.new) }
 {
     *items = 0;
     let Some(mut part) = at.take(alloc) else {

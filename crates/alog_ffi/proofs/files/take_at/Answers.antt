@@ -14,6 +14,7 @@ returns-in-Ok-clause-taken c =
         line = e.line;
         got = e.taken;
       },
+      e.records,
       e.rest,
       e.some.0,
       e.some.1,
