@@ -4,4 +4,6 @@
 #![tactic(auto)]
 
 #[cfg(test)]
+mod limit_tests;
+#[cfg(test)]
 mod run_tests;
