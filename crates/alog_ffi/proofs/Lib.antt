@@ -2,3 +2,4 @@ pub mod Steps
 pub mod Boxed
 pub mod Crosses
 pub mod News
+pub mod Unopened

@@ -9,7 +9,7 @@ returns-in-Ok c =
     let logs = simp (to_z-of_z, c.args.said.fits) at e.logs in
     inr (record {
       heard = c.in_ok-heard.heard;
-      is = subst (λ (ls : List Logger). IsHeard ls c.args.said c.in_ok-heard.heard) c.loggers.ensures c.in_ok-heard.ensures.ok;
+      is = subst (λ (ls : List Logger). IsHeard ls c.args.said c.in_ok-heard.heard) c.loggers-2.ensures c.in_ok-heard.ensures.ok;
       same = record { hosted = e.same.0; producer = e.same.1 };
       logs = logs;
       blocks = e.blocks;
