@@ -117,6 +117,7 @@ static KEEPS: &[Row<'static>] = &[
     (Deed::Makes(POOL, SECOND), Answer::Done),
     (Deed::Dumps(TALKER, 3, 0), Answer::Done),
     (Deed::Logs(TALKER, 3, 1, b"a", UNTOLD), Answer::Filtered),
+    (Deed::Logs(TALKER, 3, 0, b"\xff", UNTOLD), Answer::NotUtf8),
     (Deed::Logs(SECOND, 3, 2, b"b", 0), Answer::Done),
     (Deed::Logs(TALKER, 3, 0, b"c", UNTOLD), Answer::Filtered),
     (Deed::Dumps(TALKER, 0, 0), Answer::Done),

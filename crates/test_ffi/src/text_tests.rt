@@ -73,7 +73,7 @@ static LEVELS: &[Row<'static>] = &[
     (Deed::Logs(TALKER, 0, 5, b"critical", 5), Answer::Done),
     (Deed::Sets(POOL, 0, 6), Answer::Done),
     (Deed::Logs(TALKER, 0, 5, b"a", UNTOLD), Answer::Filtered),
-    (Deed::Logs(TALKER, 0, 5, b"\xff", UNTOLD), Answer::NotUtf8),
+    (Deed::Logs(TALKER, 0, 5, b"\xff", UNTOLD), Answer::Filtered),
     (Deed::Flushes(TALKER, 0, 6), Answer::Done),
     (Deed::Gives(TALKER), Answer::Done),
     (Deed::Gives(WRITER), Answer::Done),
@@ -124,7 +124,7 @@ static TEXTS: &[Row<'static>] = &[
     (Deed::Logs(TALKER, 1, 2, TOO_LONG, UNTOLD), Answer::NoLogger),
     (Deed::Says(TALKER, b"a\xc3", UNTOLD), Answer::NotUtf8),
     (Deed::Says(TALKER, b"\xed\xa0\x80", UNTOLD), Answer::NotUtf8),
-    (Deed::Logs(TALKER, 0, 1, b"\xff", UNTOLD), Answer::NotUtf8),
+    (Deed::Logs(TALKER, 0, 1, b"\xff", UNTOLD), Answer::Filtered),
     (Deed::Says(TALKER, LONGEST, 0), Answer::Done),
     (Deed::Says(TALKER, b"", 1), Answer::Done),
     (Deed::Says(TALKER, b"\xc3\xbc\0", 2), Answer::Done),
@@ -148,7 +148,8 @@ static TEXTS: &[Row<'static>] = &[
     (Deed::Closes(FILES), Answer::Done),
 ];
 
-/// A text that is no UTF-8, or too long, is refused and counted nowhere; the longest and the empty one are written.
+/// A text that is no UTF-8, or too long, is refused and counted nowhere, and one that is filtered is not looked at; the longest and the empty one are
+/// written.
 #[test]
 fn texts(rt: HostRuntime) {
     let wrong = wrong_of(rt.alloc(), [START, TEXTS, NOTHING], 0);
