@@ -9,5 +9,5 @@ use Rattle.alog_ffi.proofs.pools.open_over.Goals as goal
 pub returns-clause-refused : goal.returns-clause-refused
 returns-clause-refused c =
     let refused = subst (λ (r : Refusal). IsUnopenedFor c.args.asked (arc_value c.in-Ok.files).items (answer_of r)) c.in-Err-NoStore.field-0-is
-        c.in-Err-NoStore.ensures.refused in
+    c.in-Err-NoStore.ensures.refused in
     subst (λ (fs : List FoundFile). IsUnopenedFor c.args.asked fs answer.NoStore) c.in-Ok.ensures.shared refused
