@@ -96,32 +96,59 @@ pub fn trial_of(alloc: Global) -> Option<Trial> {
     }
 }
 
-/// Does all of these rows, which leave all handles empty, and answers which was wrong: the first handle is that of the list. Memory may be wanting so
-/// often.
-pub fn wrong_of(alloc: Global, lists: [&[Row<'_>]; 3], most: usize) -> Wrong {
+/// Does these rows, and answers which was wrong, by a number that begins with this one.
+fn tries_from(trial: &mut Trial, rows: &[Row<'_>], base: usize, lacks: &mut usize) -> Wrong {
+    let (place, answer) = tries_all(trial, rows, lacks)?;
+    Some((base.saturating_add(place), answer))
+}
+
+/// Does all of these rows, and answers which was wrong: the first one of the second list has the number 100, and that of the third 200.
+fn tries_three(
+    trial: &mut Trial,
+    first: &[Row<'_>],
+    second: &[Row<'_>],
+    third: &[Row<'_>],
+    lacks: &mut usize,
+) -> Wrong {
+    if let Some(wrong) = tries_from(trial, first, 0, lacks) {
+        return Some(wrong);
+    }
+    if let Some(wrong) = tries_from(trial, second, 100, lacks) {
+        return Some(wrong);
+    }
+    tries_from(trial, third, 200, lacks)
+}
+
+/// Does all of these rows, which leave all handles empty, and answers which was wrong. Memory may be wanting so often.
+fn wrong_among(
+    alloc: Global,
+    first: &[Row<'_>],
+    second: &[Row<'_>],
+    third: &[Row<'_>],
+    most: usize,
+) -> Wrong {
     let Some(mut trial) = trial_of(alloc) else {
         return Some((0, 0));
     };
     let mut lacks: usize = 0;
-    let mut base: usize = 0;
-    for rows in lists {
-        if let Some((place, answer)) = tries_all(&mut trial, rows, &mut lacks) {
-            return Some((base.saturating_add(place), answer));
-        }
-        base = base.saturating_add(100);
+    let wrong = tries_three(&mut trial, first, second, third, &mut lacks);
+    if wrong.is_none() && (trial.held() != 0 || lacks > most) {
+        return Some((300, 0));
     }
-    if trial.held() != 0 || lacks > most {
-        return Some((base, 0));
-    }
-    None
+    wrong
+}
+
+/// The same of these lists.
+pub fn wrong_of(alloc: Global, lists: [&[Row<'_>]; 3], most: usize) -> Wrong {
+    wrong_among(alloc, lists[0], lists[1], lists[2], most)
 }
 
 /// The same of one list that begins with no pool.
 pub fn wrong_in(alloc: Global, rows: &[Row<'_>]) -> Wrong {
-    wrong_of(alloc, [rows, NOTHING, NOTHING], 0)
+    wrong_among(alloc, rows, NOTHING, NOTHING, 0)
 }
 
 /// The same of a list between start and end.
 pub fn wrong_between(alloc: Global, rows: &[Row<'_>]) -> Wrong {
-    wrong_of(alloc, [START, rows, END], 0)
+    wrong_among(alloc, START, rows, END, 0)
 }

@@ -3,4 +3,4 @@ use Rattle.alog_registry.specs.LaneKeeper.{HasList, IsSeated}
 use Rattle.test_loggers.proofs.dump_tests.dump_until_held.Given as goal
 
 abbrev pub invariant-loop : goal.invariant-loop
-invariant-loop l = IsSeated l.keeper × HasList l.keeper × (l.keeper.lane ≡ l.initial.keeper.lane)
+invariant-loop g l = IsSeated l.keeper × HasList l.keeper × (l.keeper.lane ≡ l.initial.keeper.lane)

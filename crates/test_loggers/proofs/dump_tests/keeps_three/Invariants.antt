@@ -2,4 +2,4 @@ use Rattle.alog_lane.specs.Calls.{IsSeatOf}
 use Rattle.test_loggers.proofs.dump_tests.keeps_three.Given as goal
 
 abbrev pub invariant-loop-time : goal.invariant-loop-time
-invariant-loop-time l = IsSeatOf l.lane l.seat
+invariant-loop-time g l = IsSeatOf l.lane l.seat
