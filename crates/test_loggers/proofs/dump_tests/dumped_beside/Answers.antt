@@ -26,7 +26,7 @@ its_talker = recorded_send (Talker.the_field).row _ _ (Talker.the_type).to_one (
 
 pub join-requires-send-F : goal.join-requires-send-F
 join-requires-send-F g c κs within =
-    param_send 1 (arg-1-1 g.row.R g.R.laws g.R.Threads-dict κs) (search (sendable, its_talker, its_lane, crosses) depth 12)
+    param_send 1 (arg-1-1 g.row.R g.R.laws g.R.Abort-dict g.R.Threads-dict κs) (search (sendable, its_talker, its_lane, crosses) depth 12)
 
 pub join-requires-send-A : goal.join-requires-send-A
 join-requires-send-A g c κs = search (sendable, its_talker) depth 7
