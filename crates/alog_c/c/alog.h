@@ -55,7 +55,8 @@ enum alog_answer {
 #endif
     /* Done. A log or a flush was posted; a worker ended as many items as it was to, and there may be more. */
     ALOG_DONE = 0,
-    /* The message is below its logger's level, and was not logged. Nothing is to be done. */
+    /* The message is below its logger's level, and was not logged. Nothing is to be done. Its text was not looked at, unless a backtrace keeps
+       it. */
     ALOG_FILTERED = 1,
     /* The logger's policy is to block, and there was no room, or another push was faster. Nothing was done and nothing was counted: log the
        message again soon, as alog_log_wait of alog_host.h does, or let it go. */
@@ -109,7 +110,7 @@ enum alog_answer {
     /* The document is no configuration: the words that were told say why. */
     ALOG_BAD_CONFIG = 27,
     /* The folder takes no files, or another program holds it, or a sink cannot go on in its file or write to it: the words that were told say
-       why, where they are known. */
+       why, where they are known. It is an answer of a host: alog_open has it for a store that fails, and its own do not. */
     ALOG_NO_STORE = 28,
     /* The memory that was handed to alog_take has fewer than ALOG_AREA bytes. Or a host is to have too few areas. */
     ALOG_TOO_SHORT = 29,
@@ -246,8 +247,8 @@ static inline enum alog_deed alog_deed_of(uint32_t number)
     return ALOG_CAST(enum alog_deed, number);
 }
 
-/* Says, before a pool is opened, that a file of this name is in the folder and has so many bytes; any number of times. `files` holds nothing,
-   or what was said before. */
+/* Says, before a pool is opened, that a file of this name is in the folder and has so many bytes; for any number of files. What is said first of a
+   name counts. `files` holds nothing, or what was said before. */
 static inline enum alog_answer alog_found(alog_files *files, const char *name, uint64_t size)
 {
     return files == NULL || name == NULL ? ALOG_NULL : alog_answer_of(alog_c_found(files, name, strlen(name), size));
