@@ -43,6 +43,21 @@ static void *run(void *at)
     return NULL;
 }
 
+/* The end takes back what was given, and goes nowhere as long as one producer is out; answers whether that was so. */
+static int ends_nowhere(alog_report *report)
+{
+    while (__atomic_load_n(&running, __ATOMIC_SEQ_CST) > 0) {
+        alog_answer answer;
+        pthread_mutex_lock(&lock);
+        answer = alog_shutdown(&pool, report);
+        pthread_mutex_unlock(&lock);
+        if (!EXPECT(answer, ALOG_PARTS_OUT))
+            return 0;
+        sched_yield();
+    }
+    return 1;
+}
+
 int main(int argc, char **argv)
 {
     static struct task tasks[THREADS];
@@ -59,16 +74,8 @@ int main(int argc, char **argv)
     running = THREADS;
     for (int i = 0; i < THREADS; i++)
         EXPECT(pthread_create(&tasks[i].thread, NULL, run, &tasks[i]), 0);
-    /* the end takes back what was given, and goes nowhere as long as one producer is out */
-    while (__atomic_load_n(&running, __ATOMIC_SEQ_CST) > 0) {
-        alog_answer answer;
-        pthread_mutex_lock(&lock);
-        answer = alog_shutdown(&pool, &report);
-        pthread_mutex_unlock(&lock);
-        if (!EXPECT(answer, ALOG_PARTS_OUT))
-            return trial_end();
-        sched_yield();
-    }
+    if (!ends_nowhere(&report))
+        return trial_end();
     for (int i = 0; i < THREADS; i++) {
         pthread_join(tasks[i].thread, NULL);
         sum.posted += tasks[i].posted;

@@ -1,0 +1,210 @@
+/* What a host of alog_host.h is: its options, its workers' seats, its clients and the bells by which threads wake each other. A program includes
+   alog_host.h, which includes this. */
+#ifndef ALOG_PARTS_H
+#define ALOG_PARTS_H
+
+#include "alog.h"
+
+#include <dirent.h>
+#include <errno.h>
+#include <fcntl.h>
+#include <pthread.h>
+#include <sched.h>
+#include <signal.h>
+#include <stdio.h>
+#include <stdlib.h>
+#include <sys/file.h>
+#include <sys/stat.h>
+#include <sys/types.h>
+#include <time.h>
+#include <unistd.h>
+
+#ifndef CLOCK_REALTIME
+#error "alog_host.h needs POSIX: define _POSIX_C_SOURCE as 200809L before the first include"
+#endif
+
+#ifdef __cplusplus
+extern "C" {
+#endif
+
+/* The most workers of a pool, the most producers in the life of one, the areas of each sink for each worker where the options do not say and
+   at the least, and the files that are open at once. */
+enum { ALOG_WORKERS_MAX = 64, ALOG_PRODUCERS_MAX = 4096, ALOG_AREAS = 16, ALOG_AREAS_MIN = 3, ALOG_OPEN_FILES = 16 };
+
+/* The most messages that a worker ends before it takes what it wrote, and how many it ends before it rings for room, if it finds so many. */
+enum { ALOG_BATCH = 16, ALOG_ROOM = 64 };
+
+/* How often a log is tried, and a worker yields, before they rest, and the rest of a worker that waits for another. */
+enum { ALOG_TRIES = 8, ALOG_YIELDS = 64, ALOG_REST = 100000 };
+
+/* The file by which a folder is held, which no sink may have, and the longest name that a configuration gives a file. */
+#define ALOG_LOCK ".alog.lock"
+enum { ALOG_FOUND_MAX = 64 };
+
+/* What a host may be told. */
+typedef struct alog_options {
+    /* how many workers, 1 to ALOG_WORKERS_MAX, and at most as many as the configuration says */
+    size_t workers;
+    /* how many clients may be opened in its life, at most ALOG_PRODUCERS_MAX; 0 for so many */
+    size_t producers;
+    /* how many areas each sink has, at least ALOG_AREAS_MIN for each worker; 0 for ALOG_AREAS for each */
+    size_t areas;
+    /* whether a flush waits until the disk has what was written */
+    uint32_t sync;
+} alog_options;
+
+/* What threads sleep at: how many are to be woken yet, and how many wake-ups were not taken yet. */
+typedef struct alog_bell {
+    pthread_mutex_t lock;
+    pthread_cond_t rung;
+    uint32_t sleepers;
+    uint32_t wakes;
+} alog_bell;
+
+struct alog_host;
+
+/* A worker and its thread. */
+typedef struct alog_seat {
+    struct alog_host *host;
+    alog_worker worker;
+    pthread_t thread;
+    /* how many messages it ended since it rang for room */
+    size_t ended;
+} alog_seat;
+
+/* A file that is open, where its name has some bytes, when it was used last, and whether something was written that was not brought to the
+   disk since. */
+typedef struct alog_open_file {
+    uint64_t used;
+    size_t name_length;
+    int descriptor;
+    uint32_t is_dirty;
+    char name[ALOG_NAME_MAX];
+} alog_open_file;
+
+/* A pool with its workers' threads and its files. */
+typedef struct alog_host {
+    alog_pool pool;
+    /* one call at a time uses the pool's handle */
+    pthread_mutex_t lock;
+    /* rung for workers by who logs, and for who waits for room by workers */
+    alog_bell work;
+    alog_bell room;
+    /* one thread at a time takes what is to be done to the files, into `area`, and does it */
+    pthread_mutex_t files_lock;
+    alog_files files;
+    char *area;
+    /* the folder, the file by which it is held, and its open files, of which the one that was used last has the greatest `used` */
+    int folder;
+    int held;
+    uint64_t uses;
+    alog_open_file open[ALOG_OPEN_FILES];
+    /* the name that a file kept, since its rename failed: no other one gets it before that file has another */
+    char kept[ALOG_NAME_MAX + 1];
+    /* whether a flush goes to the disk, and whether a file was made, renamed or removed since the names of the folder were brought there */
+    uint32_t sync;
+    uint32_t is_changed;
+    size_t workers;
+    size_t batch;
+    size_t clients;
+    uint32_t is_open;
+    uint32_t is_ending;
+    alog_seat seats[ALOG_WORKERS_MAX];
+    /* how many calls on files failed, and the errno of the first, which stay there when the host was stopped */
+    uint64_t failures;
+    int failed_errno;
+    /* why alog_start was refused, in words */
+    char told[512];
+} alog_host;
+
+/* What a thread logs with. */
+typedef struct alog_client {
+    alog_host *host;
+    alog_producer producer;
+} alog_client;
+
+/* What a client logs: a text of so many bytes in UTF-8, its time in nanoseconds since 1970, UTC, and where it comes from, or null. */
+typedef struct alog_message {
+    uint32_t logger;
+    enum alog_level level;
+    int64_t time;
+    const char *text;
+    size_t length;
+    const alog_source *source;
+} alog_message;
+
+/* The time in nanoseconds since 1970, UTC. */
+static inline int64_t alog_now(void)
+{
+    struct timespec now;
+    int64_t seconds;
+    clock_gettime(CLOCK_REALTIME, &now);
+    seconds = now.tv_sec;
+    return seconds * 1000000000 + now.tv_nsec;
+}
+
+static inline void alog_bell_open(alog_bell *bell)
+{
+    pthread_mutex_init(&bell->lock, NULL);
+    pthread_cond_init(&bell->rung, NULL);
+    bell->sleepers = 0;
+    bell->wakes = 0;
+}
+
+static inline void alog_bell_close(alog_bell *bell)
+{
+    pthread_cond_destroy(&bell->rung);
+    pthread_mutex_destroy(&bell->lock);
+}
+
+/* Says that this thread is about to sleep. It looks once more then, and sleeps or leaves. */
+static inline void alog_bell_enter(alog_bell *bell)
+{
+    pthread_mutex_lock(&bell->lock);
+    __atomic_add_fetch(&bell->sleepers, 1, __ATOMIC_SEQ_CST);
+    pthread_mutex_unlock(&bell->lock);
+}
+
+/* Sleeps until there is a wake-up, and takes it. */
+static inline void alog_bell_sleep(alog_bell *bell)
+{
+    pthread_mutex_lock(&bell->lock);
+    while (bell->wakes == 0)
+        pthread_cond_wait(&bell->rung, &bell->lock);
+    bell->wakes--;
+    pthread_mutex_unlock(&bell->lock);
+}
+
+/* Goes on without sleeping, and leaves a wake-up to those that sleep, as long as there is one for each of them. */
+static inline void alog_bell_leave(alog_bell *bell)
+{
+    pthread_mutex_lock(&bell->lock);
+    if (bell->sleepers > 0)
+        __atomic_sub_fetch(&bell->sleepers, 1, __ATOMIC_SEQ_CST);
+    else
+        bell->wakes--;
+    pthread_mutex_unlock(&bell->lock);
+}
+
+/* Wakes up to so many of those that sleep or are about to: where there are none, it is one read. */
+static inline void alog_bell_ring(alog_bell *bell, uint32_t most)
+{
+    uint32_t count;
+    if (__atomic_load_n(&bell->sleepers, __ATOMIC_SEQ_CST) == 0)
+        return;
+    pthread_mutex_lock(&bell->lock);
+    count = bell->sleepers < most ? bell->sleepers : most;
+    __atomic_sub_fetch(&bell->sleepers, count, __ATOMIC_SEQ_CST);
+    bell->wakes += count;
+    if (count == 1)
+        pthread_cond_signal(&bell->rung);
+    else if (count > 1)
+        pthread_cond_broadcast(&bell->rung);
+    pthread_mutex_unlock(&bell->lock);
+}
+
+#ifdef __cplusplus
+}
+#endif
+
+#endif
