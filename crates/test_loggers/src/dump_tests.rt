@@ -333,7 +333,7 @@ fn dumped_beside<R: Abort + Threads>(
 
 /// A dump at once that meets the lock while another thread has it says so, and nothing changed: it made no turn and no post, and a later one goes on.
 #[test]
-fn a_dump_meets_a_lock(rt: HostRuntime) -> Result<(), Fail> {
+fn a_dump_that_is_held(rt: HostRuntime) -> Result<(), Fail> {
     let alloc = rt.alloc();
     let list = Dumped::new(alloc, ROOM, TEXT_LIMIT_MAX)?;
     let own = Dumped::new(alloc, ROOM, TEXT_LIMIT_MAX)?;
