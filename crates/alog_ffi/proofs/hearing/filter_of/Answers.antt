@@ -1,5 +1,4 @@
-use Rattle.std.proofs.Common.{rules, ◌≡◌, ◌<◌}
-use Rattle.alog_ffi.specs.Said.{IsFiltered}
+use Rattle.std.proofs.Common.{rules}
 use Rattle.alog_ffi.proofs.hearing.filter_of.Goals as goal
 
 pub returns-then-number : goal.returns-then-number
