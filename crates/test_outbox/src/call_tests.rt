@@ -43,14 +43,21 @@ fn sends_all(store: &mut Outbox, drain: &mut Drain, host: &mut Host) -> bool
     !is_early && is_flushed && !is_sent && taken == Ok(Some(6)) && is_over
 }
 
+/// Whether each call is told once, sent and carried out.
+fn carries_out(store: &mut Outbox, drain: &mut Drain, host: &mut Host) -> bool
+    requires { drain.old.line ≡ store.old.line }
+{
+    let is_told = has_sizes(store) && tells_each(store);
+    let is_sent = sends_all(store, drain, host);
+    let is_carried_out = host.has_file("d", b"onetwo") && host.files.files().len() == 1;
+    is_told && is_sent && is_carried_out
+}
+
 /// Each call once, carried out.
 fn each_call(alloc: Global) -> Result<bool, Fail> {
     let mut host = Host::new(alloc)?;
     let (mut store, mut drain) = opened(alloc, "a", 3, 2)?;
-    let is_told = has_sizes(&mut store) && tells_each(&mut store);
-    let is_sent = sends_all(&mut store, &mut drain, &mut host);
-    let is_carried_out = host.has_file("d", b"onetwo") && host.files.files().len() == 1;
-    Ok(is_told && is_sent && is_carried_out)
+    Ok(carries_out(&mut store, &mut drain, &mut host))
 }
 
 #[test]
@@ -101,14 +108,21 @@ fn goes_on(store: &mut Outbox, drain: &mut Drain, host: &mut Host) -> bool
     told == [Ok(()); 2] && taken == Ok(Some(2)) && host.has_file("a", b"y") && is_over
 }
 
+/// Whether both areas are sent, come back, and all goes on.
+fn goes_round(store: &mut Outbox, drain: &mut Drain, host: &mut Host) -> bool
+    requires { drain.old.line ≡ store.old.line }
+{
+    let is_out = runs_out(store);
+    let is_back = comes_back(store, drain, host);
+    let is_well = goes_on(store, drain, host);
+    is_out && is_back && is_well
+}
+
 /// Two areas, both sent, until one comes back.
 fn run_out(alloc: Global) -> Result<bool, Fail> {
     let mut host = Host::new(alloc)?;
     let (mut store, mut drain) = opened(alloc, "a", 0, 2)?;
-    let is_out = runs_out(&mut store);
-    let is_back = comes_back(&mut store, &mut drain, &mut host);
-    let is_well = goes_on(&mut store, &mut drain, &mut host);
-    Ok(is_out && is_back && is_well)
+    Ok(goes_round(&mut store, &mut drain, &mut host))
 }
 
 #[test]
@@ -117,28 +131,47 @@ fn areas_run_out_and_come_back(rt: HostRuntime) -> Result<(), Fail> {
     Ok(())
 }
 
+/// Whether a record of all these bytes is refused, and one of all but the first is told.
+fn tells_most(store: &mut Outbox, bytes: &[u8]) -> bool {
+    let is_refused = store.append("a", bytes) == Err(StoreError);
+    let Some(most) = bytes.get(1..) else {
+        return false;
+    };
+    is_refused && store.append("a", most) == Ok(())
+}
+
+/// Whether too little room is refused.
+fn is_too_short(drain: &mut Drain, room: &mut [u8]) -> bool {
+    let Some(short) = room.get_mut(1..) else {
+        return false;
+    };
+    drain.take_into(short) == Err(TakeError::TooShort)
+}
+
+/// Whether an area that is just full is kept until the next record, and taken whole then, into room for an area.
+fn sends_full(store: &mut Outbox, drain: &mut Drain, room: &mut [u8]) -> bool {
+    let is_kept = drain.take_into(room) == Err(TakeError::Nothing);
+    let is_told = store.append("a", b"z") == Ok(());
+    let is_whole = drain.take_into(room) == Ok(AREA);
+    is_kept && is_told && is_whole && is_too_short(drain, room)
+}
+
 /// A record that just fits an area, and one that does not.
-fn longest(alloc: Global, store: &mut Outbox, drain: &mut Drain) -> Result<bool, Fail> {
+fn is_bounded(alloc: Global, store: &mut Outbox, drain: &mut Drain) -> Result<bool, Fail> {
     let mut room = Vec::from_elem(alloc, 0, AREA)?;
     let bytes = Vec::from_elem(alloc, 7, AREA - 16)?;
-    let is_refused = store.append("a", bytes.as_slice()) == Err(StoreError);
-    let Some(most) = bytes.as_slice().get(1..) else {
-        return Ok(false);
-    };
-    store.append("a", most)?;
-    let is_kept = drain.take_into(room.as_mut_slice()) == Err(TakeError::Nothing);
-    store.append("a", b"z")?;
-    let is_whole = drain.take_into(room.as_mut_slice()) == Ok(AREA);
-    let Some(short) = room.as_mut_slice().get_mut(1..) else {
-        return Ok(false);
-    };
-    let is_short = drain.take_into(short) == Err(TakeError::TooShort);
-    Ok(is_refused && is_kept && is_whole && is_short)
+    let is_told = tells_most(store, bytes.as_slice());
+    Ok(is_told && sends_full(store, drain, room.as_mut_slice()))
+}
+
+/// Such records, over two areas.
+fn longest(alloc: Global) -> Result<bool, Fail> {
+    let (mut store, mut drain) = opened(alloc, "a", 0, 2)?;
+    is_bounded(alloc, &mut store, &mut drain)
 }
 
 #[test]
 fn the_longest_record(rt: HostRuntime) -> Result<(), Fail> {
-    let (mut store, mut drain) = opened(rt.alloc(), "a", 0, 2)?;
-    assert!(rt; longest(rt.alloc(), &mut store, &mut drain)?);
+    assert!(rt; longest(rt.alloc())?);
     Ok(())
 }

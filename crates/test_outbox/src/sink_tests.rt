@@ -64,42 +64,83 @@ fn gives<S: Store>(
     Ok(true)
 }
 
-/// Both sinks take a few lines, and after each what was told is carried out.
-fn agrees(
-    alloc: Global,
+/// A sink over a store that hands its calls out, and by whom they are carried out.
+#[derive(Drop)]
+struct Far {
+    sink: Sink<Outbox>,
+    drain: Drain,
+    host: Host,
+}
+
+impl Far {
+    /// A sink of this kind, and a host without files.
+    fn open(alloc: Global, kind: Kind) -> Result<Far, Fail> {
+        let host = Host::new(alloc)?;
+        let (store, drain) = opened(alloc, "other", 5, AREAS)?;
+        let sink = sink_over(alloc, kind, store)?;
+        Ok(Far { sink, drain, host })
+    }
+
+    /// Gives the sink a text, and carries out what it told. It answers whether the sink took the text, and told what can be carried out.
+    fn gives(&mut self, message: &Message, line: &mut LineBuf) -> Result<bool, Fail> {
+        if !gives(&mut self.sink, message, line)? {
+            return Ok(false);
+        }
+        Ok(self.host.take_all(&mut self.drain, 9)?.is_some())
+    }
+}
+
+/// The text of this number. Three of them are of a day.
+fn numbered(alloc: Global, number: i64) -> Result<Message, Fail> {
+    let text = format!(in alloc; "text {number}")?;
+    let time = number.wrapping_mul(DAY / 3);
+    let message = Message::new(alloc, 64, 0, Level::Info, time, 1, text.as_str(), None)?;
+    Ok(message)
+}
+
+/// Whether both sinks take a text, and what was told is carried out to the same files.
+fn agrees_on(
     near: &mut Sink<MemStore>,
-    far: &mut Sink<Outbox>,
-    drain: &mut Drain,
-    host: &mut Host,
+    far: &mut Far,
+    message: &Message,
+    line: &mut LineBuf,
 ) -> Result<bool, Fail> {
+    if !gives(near, message, line)? || !far.gives(message, line)? {
+        return Ok(false);
+    }
+    let Some(store) = near.store() else {
+        return Ok(false);
+    };
+    Ok(far.host.has_files_of(store))
+}
+
+/// Both sinks take a few lines, and after each what was told is carried out.
+fn agrees(alloc: Global, near: &mut Sink<MemStore>, far: &mut Far) -> Result<bool, Fail> {
     let mut line = LineBuf::new(alloc, 256)?;
     for number in 0..12_i64 {
-        let text = format!(in alloc; "text {number}")?;
-        let time = number.wrapping_mul(DAY / 3);
-        let message = Message::new(alloc, 64, 0, Level::Info, time, 1, text.as_str(), None)?;
-        if !gives(near, &message, &mut line)? || !gives(far, &message, &mut line)? {
-            return Ok(false);
-        }
-        if host.take_all(drain, 9)?.is_none() {
-            return Ok(false);
-        }
-        let Some(store) = near.store() else {
-            return Ok(false);
-        };
-        if !host.has_files_of(store) {
+        let message = numbered(alloc, number)?;
+        if !agrees_on(near, far, &message, &mut line)? {
             return Ok(false);
         }
     }
     Ok(true)
 }
 
+/// Whether both sinks agree. The near one is let go.
+fn ends_near(alloc: Global, mut near: Sink<MemStore>, far: &mut Far) -> Result<bool, Fail> {
+    agrees(alloc, &mut near, far)
+}
+
+/// Whether both sinks agree. They are let go.
+fn ends_the_same(alloc: Global, near: Sink<MemStore>, mut far: Far) -> Result<bool, Fail> {
+    ends_near(alloc, near, &mut far)
+}
+
 /// Whether a sink of this kind is the same over both.
 fn is_same(alloc: Global, kind: Kind) -> Result<bool, Fail> {
-    let (store, mut drain) = opened(alloc, "other", 5, AREAS)?;
-    let mut host = Host::new(alloc)?;
-    let mut near = sink_over(alloc, kind, MemStore::new(alloc))?;
-    let mut far = sink_over(alloc, kind, store)?;
-    agrees(alloc, &mut near, &mut far, &mut drain, &mut host)
+    let near = sink_over(alloc, kind, MemStore::new(alloc))?;
+    let far = Far::open(alloc, kind)?;
+    ends_the_same(alloc, near, far)
 }
 
 #[test]
@@ -120,12 +161,17 @@ fn a_daily_sink(rt: HostRuntime) -> Result<(), Fail> {
     Ok(())
 }
 
+/// Two sinks, each over one of these stores.
+fn both_over(alloc: Global, one: Outbox, two: Outbox) -> Result<Vec<Sink<Outbox>>, Fail> {
+    let mut sinks = Vec::new(alloc);
+    sinks.push(sink_over(alloc, Kind::Memory, one)?)?;
+    sinks.push(sink_over(alloc, Kind::Rotating, two)?)?;
+    Ok(sinks)
+}
+
 /// A fan of two sinks over these stores.
 fn fan_over(alloc: Global, one: Outbox, two: Outbox) -> Result<Sink<Outbox>, Fail> {
-    let mut members = Vec::new(alloc);
-    members.push(sink_over(alloc, Kind::Memory, one)?)?;
-    members.push(sink_over(alloc, Kind::Rotating, two)?)?;
-    match Sink::fan(alloc, Level::Info, members) {
+    match Sink::fan(alloc, Level::Info, both_over(alloc, one, two)?) {
         Ok(fan) => Ok(fan),
         Err(refused) => Err(refused.error.into()),
     }
@@ -158,11 +204,16 @@ fn ends_with_text(alloc: Global, fan: Sink<Outbox>) -> Result<bool, Fail> {
     takes_text(alloc, &mut fan)
 }
 
-/// Whether each of the two was told that text.
+/// Whether each of the two was told that text. Both are let go.
+fn have_text(alloc: Global, mut one: Drain, mut two: Drain) -> Result<bool, Fail> {
+    Ok(has_text(alloc, &mut one)? && has_text(alloc, &mut two)?)
+}
+
+/// Whether a fan takes a text, and tells it to the store of each of its two sinks.
 fn fan(alloc: Global) -> Result<bool, Fail> {
-    let (fan, mut one, mut two) = fan_opened(alloc)?;
+    let (fan, one, two) = fan_opened(alloc)?;
     let is_taken = ends_with_text(alloc, fan)?;
-    let is_told = has_text(alloc, &mut one)? && has_text(alloc, &mut two)?;
+    let is_told = have_text(alloc, one, two)?;
     Ok(is_taken && is_told)
 }
 

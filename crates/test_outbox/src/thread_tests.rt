@@ -24,6 +24,17 @@ fn append(rt: &impl Abort, store: &mut Outbox, line: &str) {
     panic!(rt; "no area")
 }
 
+/// Flushes, as soon as there is an area.
+fn flush(rt: &impl Abort, store: &mut Outbox) {
+    for _ in 0..LOOKS {
+        match store.flush("log") {
+            Ok(()) => return,
+            Err(_) => thread::yield_now(),
+        }
+    }
+    panic!(rt; "no area")
+}
+
 /// Writes all lines, of which each is its number, and flushes.
 fn write(rt: &impl Abort, alloc: Global, mut store: Outbox) {
     for number in 0..LINES {
@@ -32,13 +43,7 @@ fn write(rt: &impl Abort, alloc: Global, mut store: Outbox) {
         };
         append(rt, &mut store, line.as_str());
     }
-    for _ in 0..LOOKS {
-        if store.flush("log").is_ok() {
-            return;
-        }
-        thread::yield_now();
-    }
-    panic!(rt; "no area")
+    flush(rt, &mut store);
 }
 
 /// Takes areas until so many records were carried out.
@@ -57,33 +62,50 @@ fn drained(rt: &impl Abort, mut host: Host, mut drain: Drain, wanted: usize) -> 
     panic!(rt; "no end")
 }
 
-/// The file has the numbers of all lines, in order.
-fn has_lines(rt: &impl Abort, host: &Host) {
-    let Some(file) = host.files.files().get("log") else {
-        panic!(rt; "no file")
-    };
-    let Ok(file) = str::from_utf8(file.as_slice()) else {
-        panic!(rt; "no text")
-    };
+/// These lines are the numbers of all lines, in order.
+fn are_lines(rt: &impl Abort, text: &str) {
     let mut next = 0;
-    for line in file.lines() {
+    for line in text.lines() {
         assert!(rt; line.parse::<u64>() == Ok(next));
         next = next.wrapping_add(1);
     }
     assert!(rt; next == LINES);
 }
 
+/// The file has the numbers of all lines, in order.
+fn has_lines(rt: &impl Abort, host: &Host) {
+    let Some(file) = host.files.files().get("log") else {
+        panic!(rt; "no file")
+    };
+    let Ok(text) = str::from_utf8(file.as_slice()) else {
+        panic!(rt; "no text")
+    };
+    are_lines(rt, text);
+}
+
+/// The host, when one thread wrote all lines and one drained them.
+fn joined(
+    rt: &(impl Abort + Threads + Sync),
+    alloc: Global,
+    store: Outbox,
+    drain: Drain,
+    host: Host,
+) -> Host {
+    let wanted = (LINES as usize).saturating_add(1);
+    let ((), host) = thread::join(
+        rt,
+        move || write(rt, alloc, store),
+        move || drained(rt, host, drain, wanted),
+    );
+    host
+}
+
 #[test]
 fn one_thread_writes_and_one_drains(rt: HostRuntime) -> Result<(), Fail> {
     let alloc = rt.alloc();
-    let (store, drain) = opened(alloc, "log", 0, 4)?;
     let host = Host::new(alloc)?;
-    let wanted = (LINES as usize).saturating_add(1);
-    let ((), host) = thread::join(
-        &rt,
-        move || write(&rt, alloc, store),
-        move || drained(&rt, host, drain, wanted),
-    );
+    let (store, drain) = opened(alloc, "log", 0, 4)?;
+    let host = joined(&rt, alloc, store, drain, host);
     has_lines(&rt, &host);
     Ok(())
 }
