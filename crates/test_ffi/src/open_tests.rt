@@ -260,6 +260,39 @@ fn what_is_taken_when(rt: HostRuntime) {
     assert!(rt; wrong.is_none(), "{wrong:?}");
 }
 
+/// A pool whose sink has one area.
+const ONE_AREA: Opening<'static> = Opening { areas: 1, ..PLAIN };
+
+static ONE_AREA_FULL: &[Row<'static>] = &[
+    (Deed::Opens(POOL, FILES, ONE_AREA), Answer::Done),
+    (Deed::Makes(POOL, TALKER), Answer::Done),
+    (Deed::Hires(POOL, WRITER), Answer::Done),
+    (Deed::Says(TALKER, b"a", 0), Answer::Done),
+    (Deed::Works(WRITER, 9, 1), Answer::Idle),
+    (Deed::Says(TALKER, b"b", 1), Answer::Done),
+    (Deed::Works(WRITER, 9, 1), Answer::Idle),
+    (
+        Deed::Takes(FILES, AREA, &[(1, b"a.log", b"a\n"), (4, b"a.log", b"")]),
+        Answer::Done,
+    ),
+    (Deed::Takes(FILES, AREA, &[]), Answer::Idle),
+    (Deed::Says(TALKER, b"c", 2), Answer::Done),
+    (Deed::Works(WRITER, 9, 1), Answer::Idle),
+    (Deed::Gives(TALKER), Answer::Done),
+    (Deed::Gives(WRITER), Answer::Done),
+    (Deed::Ends(POOL, [3, 3, 0, 0, 3, 3]), Answer::Done),
+    (Deed::Takes(FILES, AREA, &[]), Answer::Idle),
+    (Deed::Closes(FILES), Answer::Done),
+];
+
+/// A sink has as many areas as were asked for. One that finds none is broken, also when there is one again: what it wrote before is handed out, and later
+/// turns are faults, which the report counts.
+#[test]
+fn a_sink_without_an_area(rt: HostRuntime) {
+    let wrong = wrong_in(rt.alloc(), ONE_AREA_FULL);
+    assert!(rt; wrong.is_none(), "{wrong:?}");
+}
+
 /// A pool that is asked for more producers than there may be.
 const ALL: Opening<'static> = Opening {
     producers: usize::MAX,

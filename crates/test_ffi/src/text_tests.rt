@@ -106,6 +106,49 @@ fn levels_by_number(rt: HostRuntime) {
     assert!(rt; level_of(u32::MAX).is_none());
 }
 
+/// A pool with two loggers.
+const TWO: Opening<'static> = Opening {
+    document: b"[[sink]]\nname = \"main\"\nkind = \"memory\"\npattern = \"%n %v\"\n\
+[[logger]]\nname = \"one\"\nsinks = [\"main\"]\n[[logger]]\nname = \"two\"\nsinks = [\"main\"]\n",
+    producers: 1,
+    areas: 1,
+    room: 0,
+    words: b"",
+};
+
+static TWO_LEVELS: &[Row<'static>] = &[
+    (Deed::Opens(POOL, FILES, TWO), Answer::Done),
+    (Deed::Makes(POOL, TALKER), Answer::Done),
+    (Deed::Sets(TALKER, 1, 4), Answer::Done),
+    (Deed::Logs(TALKER, 1, 3, b"a", UNTOLD), Answer::Filtered),
+    (Deed::Logs(TALKER, 0, 2, b"b", 0), Answer::Done),
+    (Deed::Sets(POOL, 0, 5), Answer::Done),
+    (Deed::Logs(TALKER, 0, 4, b"c", UNTOLD), Answer::Filtered),
+    (Deed::Logs(TALKER, 1, 4, b"d", 1), Answer::Done),
+    (Deed::Gives(TALKER), Answer::Done),
+    (Deed::Ends(POOL, [2, 2, 0, 0, 2, 0]), Answer::Done),
+    (
+        Deed::Takes(
+            FILES,
+            AREA,
+            &[
+                (1, b"main", b"one b\n"),
+                (1, b"main", b"two d\n"),
+                (4, b"main", b""),
+            ],
+        ),
+        Answer::Done,
+    ),
+    (Deed::Closes(FILES), Answer::Done),
+];
+
+/// The level of a logger is set and that of another one is not.
+#[test]
+fn a_level_of_each_logger(rt: HostRuntime) {
+    let wrong = wrong_of(rt.alloc(), [TWO_LEVELS, NOTHING, NOTHING], 0);
+    assert!(rt; wrong.is_none(), "{wrong:?}");
+}
+
 /// A hundred bytes, the most that a text may have.
 const LONGEST: &[u8] =
     b"0123456789012345678901234567890123456789012345678901234567890123456789012345678901234567890123456789";
