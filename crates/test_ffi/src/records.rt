@@ -15,19 +15,22 @@ fn number_at(bytes: &[u8], at: usize) -> Option<u32> {
     Some(u32::from_le_bytes(number))
 }
 
-/// The first record, and what is behind it.
-pub fn first_of(bytes: &[u8]) -> Option<(Record<'_>, &[u8])> {
+/// The kind of the first record, and how many bytes its name and its rest have.
+fn header_of(bytes: &[u8]) -> Option<(u32, usize, usize)> {
     let kind = number_at(bytes, 0)?;
     let name_len = number_at(bytes, 4)? as usize;
     let rest_len = number_at(bytes, 8)? as usize;
     if number_at(bytes, 12)? != 0 {
         return None;
     }
-    let behind = bytes.get(16..)?;
-    let name = behind.get(..name_len)?;
-    let behind = behind.get(name_len..)?;
-    let rest = behind.get(..rest_len)?;
-    let behind = behind.get(rest_len..)?;
+    Some((kind, name_len, rest_len))
+}
+
+/// The first record, and what is behind it.
+pub fn first_of(bytes: &[u8]) -> Option<(Record<'_>, &[u8])> {
+    let (kind, name_len, rest_len) = header_of(bytes)?;
+    let (name, behind) = bytes.get(16..)?.split_at_checked(name_len)?;
+    let (rest, behind) = behind.split_at_checked(rest_len)?;
     Some(((kind, name, rest), behind))
 }
 
