@@ -31,10 +31,11 @@ extern "C" {
    at the least, and the files that are open at once. */
 enum { ALOG_WORKERS_MAX = 64, ALOG_PRODUCERS_MAX = 4096, ALOG_AREAS = 16, ALOG_AREAS_MIN = 3, ALOG_OPEN_FILES = 16 };
 
-/* The most messages that a worker ends before it takes what it wrote, and how many it ends before it rings for room, if it finds so many. */
-enum { ALOG_BATCH = 16, ALOG_ROOM = 64 };
+/* The most messages that a worker ends before it takes what it wrote, and how many it ends before it rings for room, if it finds so many: to wake
+   who waits takes a call of the system for each, so who is woken is to find room for many. */
+enum { ALOG_BATCH = 16, ALOG_ROOM = 2048 };
 
-/* How often a log is tried, and a worker yields, before they rest, and the rest of a worker that waits for another. */
+/* How often a log is tried, and a worker yields, before they rest, and the nanoseconds that a worker rests which waits for another. */
 enum { ALOG_TRIES = 8, ALOG_YIELDS = 64, ALOG_REST = 100000 };
 
 /* The file by which a folder is held, which no sink may have, and the longest name that a configuration gives a file. */
