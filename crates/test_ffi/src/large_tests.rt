@@ -38,24 +38,30 @@ struct Taken {
     renames: u64,
 }
 
+/// Whether this is the line of the next message, and the file has room for it.
+fn is_next_line(alloc: Global, taken: &mut Taken, rest: &[u8]) -> Result<bool, AllocError> {
+    let line = format!(in alloc; "info message {}\n", taken.next)?;
+    taken.next = taken.next.saturating_add(1);
+    taken.size = taken.size.saturating_add(rest.len());
+    Ok(rest == line.as_bytes() && taken.size <= 100_000)
+}
+
 /// Whether a record is the next that is to come: the line of the next message, as long as the file has room for it, a rename where it has none, or a
 /// flush.
 fn is_next(alloc: Global, taken: &mut Taken, record: Record<'_>) -> Result<bool, AllocError> {
     let (kind, name, rest) = record;
+    if name != FILE {
+        return Ok(false);
+    }
     match kind {
-        1 => {
-            let line = format!(in alloc; "info message {}\n", taken.next)?;
-            taken.next = taken.next.saturating_add(1);
-            taken.size = taken.size.saturating_add(rest.len());
-            Ok(name == FILE && rest == line.as_bytes() && taken.size <= 100_000)
-        }
+        1 => is_next_line(alloc, taken, rest),
         2 => {
             let is_due = taken.size > 99_981;
             taken.size = 0;
             taken.renames = taken.renames.saturating_add(1);
-            Ok(name == FILE && rest == OLD_FILE && is_due)
+            Ok(rest == OLD_FILE && is_due)
         }
-        4 => Ok(name == FILE && rest.is_empty()),
+        4 => Ok(rest.is_empty()),
         _ => Ok(false),
     }
 }

@@ -25,26 +25,50 @@ fn said(text: &[u8]) -> Said<'_> {
     }
 }
 
-fn run(alloc: Global) -> bool {
-    let (mut pool, mut files, mut own, mut crew) = (empty(), empty(), empty(), empty());
-    let mut bytes = [0_u8; 131_072];
-    let (mut length, mut number, mut ticket, mut items) = (0_usize, 0_u32, 0_u64, 0_usize);
+/// Opens a pool of the document.
+fn opens(alloc: Global, pool: &mut AlogHandle, files: &mut AlogHandle) -> bool {
     let asked = Asked {
         document: DOCUMENT,
         producers: 4,
         areas: 2,
     };
-    let opened = open(alloc, &mut pool, &mut files, asked, &mut bytes, &mut length);
-    if opened != Answer::Done {
-        return false;
-    }
-    let made = producer(alloc, &mut pool, &mut own) == Answer::Done
-        && worker(alloc, &mut pool, &mut crew) == Answer::Done
-        && find(alloc, &mut own, b"app", &mut number) == Answer::Done;
-    let logged = log(alloc, &mut own, said(b"one"), &mut ticket) == Answer::Done
-        && log(alloc, &mut own, said(b"two"), &mut ticket) == Answer::Done
-        && work(alloc, &mut crew, 9, &mut items) == Answer::Idle;
-    let taken = take(alloc, &mut files, &mut bytes, &mut length) == Answer::Done && length > 0;
+    let mut words = [0_u8; 8];
+    let mut length = 0_usize;
+    open(alloc, pool, files, asked, &mut words, &mut length) == Answer::Done
+}
+
+/// Makes a producer and a worker, and finds the logger.
+fn starts(
+    alloc: Global,
+    pool: &mut AlogHandle,
+    own: &mut AlogHandle,
+    crew: &mut AlogHandle,
+) -> bool {
+    let mut number = 9_u32;
+    producer(alloc, pool, own) == Answer::Done
+        && worker(alloc, pool, crew) == Answer::Done
+        && find(alloc, own, b"app", &mut number) == Answer::Done
+        && number == 0
+}
+
+/// Logs two messages, which are written.
+fn logs_two(alloc: Global, own: &mut AlogHandle, crew: &mut AlogHandle) -> bool {
+    let (mut ticket, mut items) = (0_u64, 0_usize);
+    log(alloc, own, said(b"one"), &mut ticket) == Answer::Done
+        && log(alloc, own, said(b"two"), &mut ticket) == Answer::Done
+        && work(alloc, crew, 9, &mut items) == Answer::Idle
+        && items == 2
+}
+
+/// Takes what is to be done to the files.
+fn takes(alloc: Global, files: &mut AlogHandle) -> bool {
+    let mut bytes = [0_u8; 131_072];
+    let mut length = 0_usize;
+    take(alloc, files, &mut bytes, &mut length) == Answer::Done && length > 0
+}
+
+/// Gives the parts back, and ends the pool, which handled two messages.
+fn ends(alloc: Global, pool: &mut AlogHandle, own: &mut AlogHandle, crew: &mut AlogHandle) -> bool {
     let mut report = AlogReport {
         asked: 0,
         posted: 0,
@@ -53,11 +77,20 @@ fn run(alloc: Global) -> bool {
         handled: 0,
         faults: 0,
     };
-    let ended = give(alloc, &mut own) == Answer::Done
-        && give(alloc, &mut crew) == Answer::Done
-        && shutdown(alloc, &mut pool, &mut report) == Answer::Done
-        && close(alloc, &mut files) == Answer::Done;
-    made && logged && taken && ended && items == 2 && report.handled == 2
+    give(alloc, own) == Answer::Done
+        && give(alloc, crew) == Answer::Done
+        && shutdown(alloc, pool, &mut report) == Answer::Done
+        && report.handled == 2
+}
+
+fn run(alloc: Global) -> bool {
+    let (mut pool, mut files, mut own, mut crew) = (empty(), empty(), empty(), empty());
+    opens(alloc, &mut pool, &mut files)
+        && starts(alloc, &mut pool, &mut own, &mut crew)
+        && logs_two(alloc, &mut own, &mut crew)
+        && takes(alloc, &mut files)
+        && ends(alloc, &mut pool, &mut own, &mut crew)
+        && close(alloc, &mut files) == Answer::Done
 }
 
 /// Two messages go through handles.

@@ -313,6 +313,24 @@ impl Trial {
         (answer, true)
     }
 
+    /// Logs a text without a source.
+    fn says(&mut self, at: usize, logger: u32, level: u32, text: &[u8], ticket: u64) -> Seen {
+        self.logs(at, said(logger, level, text, None), ticket)
+    }
+
+    /// Logs a text with its source.
+    fn tells(
+        &mut self,
+        at: usize,
+        logger: u32,
+        text: &[u8],
+        file: &[u8],
+        function: &[u8],
+        ticket: u64,
+    ) -> Seen {
+        self.logs(at, with_source(logger, text, file, function), ticket)
+    }
+
     /// It is done once.
     pub fn does(&mut self, deed: Deed<'_>) -> Seen {
         match deed {
@@ -323,11 +341,11 @@ impl Trial {
             Deed::Finds(at, name, number) => self.finds(at, name, number),
             Deed::Sets(at, logger, level) => self.sets(at, logger, level),
             Deed::Logs(at, logger, level, text, ticket) => {
-                self.logs(at, said(logger, level, text, None), ticket)
+                self.says(at, logger, level, text, ticket)
             }
-            Deed::Says(at, text, ticket) => self.logs(at, said(0, 2, text, None), ticket),
+            Deed::Says(at, text, ticket) => self.says(at, 0, 2, text, ticket),
             Deed::Tells(at, logger, text, file, function, ticket) => {
-                self.logs(at, with_source(logger, text, file, function), ticket)
+                self.tells(at, logger, text, file, function, ticket)
             }
             Deed::Flushes(at, logger, ticket) => self.flushes(at, logger, ticket),
             Deed::Dumps(at, logger, posts) => self.dumps(at, logger, posts),
