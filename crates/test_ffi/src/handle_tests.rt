@@ -153,6 +153,8 @@ fn files_of_a_pool_in_another_place(rt: HostRuntime) {
 static OF_FOUND_FILES: &[Row<'static>] = &[
     (Deed::Founds(FILES, b"\xff", 1), Answer::NotUtf8),
     (Deed::Closes(FILES), Answer::NoHandle),
+    (Deed::Founds(FILES, b"", 0), Answer::Done),
+    (Deed::Closes(FILES), Answer::Done),
     (Deed::Founds(FILES, b"a.log", 1), Answer::Done),
     (Deed::Founds(FILES, b"a\xc3", 1), Answer::NotUtf8),
     (Deed::Founds(FILES, b"", u64::MAX), Answer::Done),
