@@ -83,7 +83,7 @@ static inline enum alog_answer alog_seat_work(alog_seat *seat)
     size_t ended = 0;
     const enum alog_answer answer = alog_work(&seat->worker, seat->host->batch, &ended);
     seat->ended += ended;
-    if (answer != ALOG_DONE || seat->ended >= ALOG_ROOM) {
+    if (answer != ALOG_DONE || seat->ended >= seat->host->ring_behind) {
         alog_bell_ring(&seat->host->room, UINT32_MAX);
         seat->ended = 0;
     }
@@ -200,6 +200,7 @@ static inline enum alog_answer alog_host_open(alog_host *host, const char *docum
     const size_t batch = areas / options->workers - 2;
     enum alog_answer answer;
     host->batch = batch < most_batch ? batch : most_batch;
+    host->ring_behind = ALOG_ROOM / options->workers;
     host->sync = options->sync;
     host->area = ALOG_CAST(char *, malloc(ALOG_AREA));
     if (host->area == NULL)

@@ -31,8 +31,8 @@ extern "C" {
    at the least, and the files that are open at once. */
 enum { ALOG_WORKERS_MAX = 64, ALOG_PRODUCERS_MAX = 4096, ALOG_AREAS = 16, ALOG_AREAS_MIN = 3, ALOG_OPEN_FILES = 16 };
 
-/* The most messages that a worker ends before it takes what it wrote, and how many it ends before it rings for room, if it finds so many: to wake
-   who waits takes a call of the system for each, so who is woken is to find room for many. */
+/* The most messages that a worker ends before it takes what it wrote, and how many all workers of a host end before one rings for room, if they
+   find so many: to wake those who wait takes a call of the system, so they are to find room for many. */
 enum { ALOG_BATCH = 16, ALOG_ROOM = 2048 };
 
 /* How often a log is tried, and a worker yields, before they rest, and the nanoseconds that a worker rests which waits for another. */
@@ -106,7 +106,9 @@ typedef struct alog_host {
     uint32_t sync;
     uint32_t is_changed;
     size_t workers;
+    /* how many messages a worker ends at most before it takes what it wrote, and before it rings for room */
     size_t batch;
+    size_t ring_behind;
     size_t clients;
     uint32_t is_open;
     uint32_t is_ending;
