@@ -4,9 +4,6 @@ use Rattle.std.proofs.Common.{length-append, length-take, length-drop}
 use Rattle.std.proofs.lemmas.List.{take_at, take-take, drop-take, length-replicate}
 use Rattle.alog_format.specs.Block.{gapped}
 
-pub length-gapped : (block : List ℕ) (len at by : ℕ) → at ≤ len → len + by ≤ length block → length (gapped block len at by) ≡ length block
-length-gapped block len at by inside fits = simp (length-append, length-take, length-drop, length-replicate) (omega arith)
-
 pub take-gapped : (block : List ℕ) (len at by : ℕ) → at ≤ len → len + by ≤ length block
     → take (len + by) (gapped block len at by) ≡ take at (take len block) ++ replicate by 32 ++ drop at (take len block)
 take-gapped block len at by inside fits =

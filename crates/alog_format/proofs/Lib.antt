@@ -5,10 +5,11 @@ pub mod SharedCrosses
 mod FirstItems
 mod Gaps
 mod ItemTexts
-mod Moves
 pub mod SharedOffsets
 mod OneLine
+pub mod Overwrites
 mod PaddedTexts
+mod Places
 mod Seconds
 pub mod Shared
 mod Steps

@@ -2,10 +2,10 @@
 --     Fields             a struct by its fields alone: what it owns does not read its name
 --     as_struct              the machine value of a struct whose fields have these
 --     wraps, unwraps     what its fields own is what it owns
-use Rattle.std.proofs.Common.{◌≡◌, ℕ, zero, suc, List, [], ◌∷◌, refl}
+use Rattle.std.proofs.Common.{◌≡◌, List, [], ◌∷◌, refl}
 use lib.Dec.{T}
 use seplogic.Ra.Ura.{Ura}
-use mir.Syntax.{Body, seq, given as dict_at}
+use mir.Syntax.{given as dict_at}
 use mir.Val.{Val, vstruct, of_list, has_ty, WT}
 use base.Fml.{ftrue}
 use types.Logic.{Logic}
@@ -34,15 +34,6 @@ as_struct Rs vss = vstruct (of_list (flat Rs vss)) ∷ []
 
 abbrev pub byte_laws : Laws u8
 byte_laws = of_field u8-field u8-laws refl (copy_shared u8-field u8-copy)
-
--- the statements of a sequence after the first n
-abbrev tail : Body → Body
-tail (seq x y) = y
-tail b = b
-
-abbrev pub after : ℕ → Body → Body
-after zero body = body
-after (suc n) body = after n (tail body)
 
 module _ {M : Type 1} {𝓤 : Ura M} {𝓛 : Logic 𝓤} {K : Type 0} {Γ : List (Item 𝓤)} {G : Goal 𝓤 𝓛.H} where
   -- what is owned of a value is one machine value, of its type

@@ -1,5 +1,6 @@
 pub mod Block
 pub mod Ownership
+pub mod Lends
 pub mod Buffer
 pub mod Clip
 pub mod Civil

@@ -1,7 +1,7 @@
 //! A block of bytes behind a raw pointer: where it begins, its bytes, and the right to give it back.
 //!
 //! The block is a vector's, which is parted into its bytes and the rest of it, and reunited to be freed. Between, nothing
-//! reaches the bytes but `Bytes::copy_in`, `move_up`, `fill` and `as_slice`.
+//! reaches the bytes but what `Bytes::places` and `as_slice` lend.
 ghost use Rattle.std.specs.Prelude.{◌≡◌, ℕ, ◌+◌, ◌^◌, ◌<◌, ◌≤◌, List, length, replicate, take};
 ghost use base.Fml.{ftrue, fex, fsep, feq};
 ghost use denote.RawPtr.{Ptr};
@@ -93,54 +93,50 @@ impl Start {
 }
 
 impl Bytes {
+    ghost use Rattle.std.specs.Prelude.{drop};
+    ghost use Rattle.std.specs.Borrow.{sem};
+    ghost use Rattle.alog_format.specs.Lends.{lends_places};
+
+    /// The `count` places from `at` on, to be written.
+    fn places(&mut self, start: *mut u8, at: usize, count: usize) -> &mut [u8]
+        requires start { start ≡ self.old.start }
+        requires fits { at + count ≤ length self.old.items }
+        ensures* writes_back { sem 𝓛 (lends_places self.entry at result) }
+        ensures value { result.now ≡ take count (drop at self.old.items) }
+    {
+        unsafe { slice::from_raw_parts_mut(start.add(at), count) }
+    }
+
     /// Copies the bytes to the places from `at` on.
+    #[tactic(auto, using(crate::proofs::Overwrites::ends_overwritten))]
     pub(crate) fn copy_in(&mut self, start: *mut u8, at: usize, bytes: &[u8])
         requires start { start ≡ self.old.start }
         requires fits { at + length bytes.now ≤ length self.old.items }
         ensures { (self.new.start ≡ self.old.start) × (self.new.items ≡ overwritten self.old.items at bytes.now) }
     {
-        let from = bytes.as_ptr();
-        let count = bytes.len();
-        let mut i = 0;
-        while i < count {
-            unsafe {
-                let byte = *from.add(i);
-                *start.add(at + i) = byte;
-            }
-            i += 1;
-        }
+        self.places(start, at, bytes.len()).copy_from_slice(bytes);
     }
 
-    /// Copies the `count` bytes from `from` on up to the places from `to` on. The last goes first, since the places may
-    /// overlap.
+    /// Copies the `count` bytes from `from` on up to the places from `to` on, which may overlap.
+    #[tactic(auto, using(crate::proofs::Overwrites::ends_moved))]
     pub(crate) fn move_up(&mut self, start: *mut u8, from: usize, to: usize, count: usize)
         requires start { start ≡ self.old.start }
         requires fits { (from ≤ to) × (to + count ≤ length self.old.items) }
         ensures { (self.new.start ≡ self.old.start) × (self.new.items ≡ moved self.old.items from to count) }
     {
-        let mut left = count;
-        while 0 < left {
-            left -= 1;
-            unsafe {
-                let byte = *start.add(from + left);
-                *start.add(to + left) = byte;
-            }
-        }
+        let by = to - from;
+        self.places(start, from, by + count)
+            .copy_within(0..count, by);
     }
 
     /// Writes the byte to the `count` places from `at` on.
+    #[tactic(auto, using(crate::proofs::Overwrites::ends_overwritten))]
     pub(crate) fn fill(&mut self, start: *mut u8, at: usize, count: usize, byte: u8)
         requires start { start ≡ self.old.start }
         requires fits { at + count ≤ length self.old.items }
         ensures { (self.new.start ≡ self.old.start) × (self.new.items ≡ overwritten self.old.items at (replicate count byte)) }
     {
-        let mut i = 0;
-        while i < count {
-            unsafe {
-                *start.add(at + i) = byte;
-            }
-            i += 1;
-        }
+        self.places(start, at, count).fill(byte);
     }
 
     /// Moves the bytes from `at` to `len` up by `by`, and fills the gap with spaces.

@@ -6,10 +6,11 @@
 //! Every writer goes up to an end, so a text that is cut is never longer in the buffer than its width, and a buffer with
 //! room for the pattern's longest line is never too short.
 //!
-//! Read `line_buf.rt` with `specs/Buffer.antt`, and `block.rt`, the raw block under it, with `specs/Block.antt` and
-//! `specs/Ownership.antt`; `context.rt` and `civil.rt` with `specs/Civil.antt`, `clip.rt` with `specs/Clip.antt`,
-//! `names.rt`, `times.rt`, `elapsed.rt` and `flag_texts.rt` with `specs/Text.antt`, `pads.rt`, and `lines.rt` and
-//! `formatter.rt` with `specs/Line.antt`, `lasting.rt` with `specs/Lasting.antt`; `laws.rt` states that a message has no two lines.
+//! Read `line_buf.rt` with `specs/Buffer.antt`, and `block.rt`, the raw block under it, with `specs/Block.antt`,
+//! `specs/Ownership.antt` and `specs/Lends.antt`; `context.rt` and `civil.rt` with `specs/Civil.antt`, `clip.rt` with
+//! `specs/Clip.antt`, `names.rt`, `times.rt`, `elapsed.rt` and `flag_texts.rt` with `specs/Text.antt`, `pads.rt`, and
+//! `lines.rt` and `formatter.rt` with `specs/Line.antt`, `lasting.rt` with `specs/Lasting.antt`; `laws.rt` states that
+//! a message has no two lines.
 #![tactic(auto)]
 
 mod block;

@@ -12,7 +12,7 @@ use thiserror::Error;
 pub struct NoRoomError;
 
 /// A block of bytes of fixed capacity, in which one worker makes its lines. The block is taken once, never grows, and
-/// is reached through a raw pointer by the methods of `Bytes` alone, which are proved by hand.
+/// is reached through a raw pointer by `Bytes` alone.
 ///
 /// The test `makes_a_line_in_place` shows each call.
 pub struct LineBuf {
