@@ -80,6 +80,7 @@ impl LineBuf {
     }
 
     /// Appends the bytes.
+    #[inline(always)]
     pub fn put(&mut self, bytes: &[u8]) -> Result<(), NoRoomError>
         ensures ok { OnOk result (self.new ≡ appended self.old bytes.now) }
         ensures no_room { IsErr result ↔ LacksRoom self.old (length bytes.now) }

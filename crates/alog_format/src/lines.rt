@@ -96,7 +96,7 @@ fn write_item(line: &mut LineBuf, item: &Item, facts: &Facts<'_>)
         Item::Flag(flag, Some(padding)) if !flag.ignores_padding() => {
             write_padded(line, padding, flag, facts)
         }
-        Item::Flag(flag, _) => write_whole(line, flag, facts),
+        Item::Flag(flag, _) => write_unpadded(line, flag, facts),
         Item::Unknown(byte) => put(line, &[b'%', byte]),
         Item::Function { width, side, next } => {
             write_function(line, width, side, facts);
@@ -128,6 +128,21 @@ pub(crate) fn put(line: &mut LineBuf, bytes: &[u8])
     ensures { line.new ≡ appended line.old bytes.now }
 {
     let _ = line.put(bytes);
+}
+
+/// Appends the text of a flag for which there is room. What a message has of it goes in as it is.
+#[tactic(auto, unfolding(crate::specs::Text::flag_text))]
+fn write_unpadded(line: &mut LineBuf, flag: Flag, facts: &Facts<'_>)
+    requires { length line.old.bytes + length (flag_text (shown_by facts.now) flag) ≤ line.old.capacity }
+    ensures { line.new ≡ appended line.old (flag_text (shown_by facts.now) flag) }
+{
+    match flag {
+        Flag::Text => put(line, facts.message.text.as_bytes()),
+        Flag::Name => put(line, facts.name.as_bytes()),
+        Flag::Level => put(line, facts.message.level.name().as_bytes()),
+        Flag::ShortLevel => put(line, facts.message.level.short().as_bytes()),
+        _ => write_whole(line, flag, facts),
+    }
 }
 
 /// Appends the text of a flag for which there is room.
