@@ -27,7 +27,7 @@ ADDRESSES = ["-O1", "-g", "-fno-omit-frame-pointer", "-fsanitize=address,undefin
 THREADS = ["-O1", "-g", "-fsanitize=thread"]
 COMPILERS = {"gcc": "g++", "clang": "clang++"}
 WRAPPED = "-Wl,--wrap=malloc,--wrap=realloc,--wrap=free"
-CALLS = "-Wl,--wrap=write,--wrap=openat,--wrap=renameat,--wrap=unlinkat,--wrap=fdatasync,--wrap=fsync,--wrap=close"
+CALLS = "-Wl,--wrap=write,--wrap=openat,--wrap=renameat,--wrap=unlinkat,--wrap=fdatasync,--wrap=fsync,--wrap=close,--wrap=alog_c_take"
 # where spdlog is, whose programs are left out where it is not there, and what its library wants, which is compiled faster than its headers
 SPDLOG = "/usr/include/spdlog/spdlog.h"
 SPDLOG_FLAGS, SPDLOG_LIBRARIES = ["-std=c++11", "-DSPDLOG_SHARED_LIB", "-DSPDLOG_COMPILED_LIB", "-DSPDLOG_FMT_EXTERNAL"], ["-lspdlog", "-lfmt"]

@@ -29,7 +29,8 @@
    wants one more and none is empty, its turn at the sink is a fault and the sink is broken: what was to be written there is missing, then and
    from then on, and the report counts each such turn. A call of alog_work takes at most one area of a sink for each message that it ends, and
    two more (alog_host.h says more). Before the end a worker is to work until it answers ALOG_IDLE, and what it wrote is to be taken: what is
-   left behind that the end of the pool writes, with nobody to empty an area meanwhile.
+   left behind that the end of the pool writes, with nobody to empty an area meanwhile. Behind the end alog_take answers ALOG_ENDED when all was
+   taken that the pool told its files: then nothing is missing but what the report counts.
 
    Link with libalog_c.a, and behind it the kit's libos_c.a and liblibc_c.a. C99 or C++11 will do. */
 #ifndef ALOG_H
@@ -76,6 +77,8 @@ enum alog_answer {
     /* The worker found the lock of a sink held by another one, and keeps what it has left to do: call it again soon, whether anything is
        logged or not. Or a dump found another thread at the backtrace, and did nothing: try again soon. */
     ALOG_HELD = 9,
+    /* The pool has ended, and all that it told its files was taken: nothing more comes. */
+    ALOG_ENDED = 10,
 
     /* From here on calls were refused, and nothing was done: all handles and all counts are as they were. */
 
@@ -391,14 +394,14 @@ static inline enum alog_answer alog_shutdown(alog_pool *pool, alog_report *repor
 }
 
 /* Takes what is to be done next to the files: whole records, of `*length` bytes, into memory of at least ALOG_AREA bytes. Answers ALOG_IDLE
-   where nothing is there now. */
+   where nothing is there now, and ALOG_ENDED, from then on, where the pool has ended and all that it told its files was taken. */
 static inline enum alog_answer alog_take(alog_files *files, char *to, size_t room, size_t *length)
 {
     return files == NULL || to == NULL || length == NULL ? ALOG_NULL : alog_answer_of(alog_c_take(files, to, room, length));
 }
 
-/* Lets go of the files, and empties the handle: when the pool was ended and nothing is left to take, or when the program gives up, and then
-   what was not taken is lost. */
+/* Lets go of the files, and empties the handle: when alog_take has answered ALOG_ENDED, or when the program gives up, and then what was not
+   taken is lost. */
 static inline enum alog_answer alog_close(alog_files *files)
 {
     return files == NULL ? ALOG_NULL : alog_answer_of(alog_c_close(files));
@@ -466,6 +469,7 @@ static inline const char *alog_says(enum alog_answer answer)
     case ALOG_IDLE: return "There is nothing to write.";
     case ALOG_SOON: return "A message is on its way: try again soon.";
     case ALOG_HELD: return "Another thread is at the sink or at the backtrace: try again soon.";
+    case ALOG_ENDED: return "The pool has ended, and all was taken.";
     case ALOG_NO_THREAD: return "The system gave no thread.";
     case ALOG_NULL: return "A pointer is null.";
     case ALOG_NO_HANDLE: return "The handle holds nothing.";

@@ -260,14 +260,16 @@ static inline void alog_host_do(alog_host *host, size_t length)
         alog_failed(host, EBADMSG);
 }
 
-/* Takes what is to be done to the files, and does it, until nothing is there. */
-static inline void alog_host_drain(alog_host *host)
+/* Takes what is to be done to the files, and does it, until nothing is there; ALOG_ENDED where all was taken and nothing more comes. */
+static inline enum alog_answer alog_host_drain(alog_host *host)
 {
     size_t length = 0;
+    enum alog_answer answer;
     pthread_mutex_lock(&host->files_lock);
-    while (alog_take(&host->files, host->area, ALOG_AREA, &length) == ALOG_DONE)
+    while ((answer = alog_take(&host->files, host->area, ALOG_AREA, &length)) == ALOG_DONE)
         alog_host_do(host, length);
     pthread_mutex_unlock(&host->files_lock);
+    return answer;
 }
 
 /* Puts words behind those that say why a start was refused, as many as there is room for. */

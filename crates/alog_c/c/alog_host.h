@@ -54,7 +54,8 @@
    Why nothing is left untaken. What a worker's call gives away lies in the files when the call returns, and the worker takes all that lies
    there, under the lock, before it does anything else: it never leaves that to another one. An answer ALOG_IDLE of alog_take may pass over
    what another worker is about to give away, which this one takes then. A worker ends only behind an ALOG_IDLE that was answered when
-   the host was ending already, so when no client is there any more, and so the end of the pool finds nothing in the queue. */
+   the host was ending already, so when no client is there any more, and so the end of the pool finds nothing in the queue. Behind the end of
+   the pool the host takes until the answer is ALOG_ENDED: all that the pool told its files was taken. An end without it is a failure, of EIO. */
 #ifndef ALOG_HOST_H
 #define ALOG_HOST_H
 
@@ -180,7 +181,8 @@ static inline enum alog_answer alog_host_end(alog_host *host, alog_report *repor
     answer = alog_shutdown(&host->pool, report);
     if (answer != ALOG_DONE)
         return answer;
-    alog_host_drain(host);
+    if (alog_host_drain(host) != ALOG_ENDED)
+        alog_failed(host, EIO);
     alog_folder_close(host);
     alog_bell_close(&host->work);
     alog_bell_close(&host->room);

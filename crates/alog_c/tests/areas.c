@@ -33,7 +33,7 @@ static uint64_t end_all(uint64_t messages)
     EXPECT(alog_shutdown(&pool, &report), ALOG_DONE);
     EXPECT(report.handled, messages);
     EXPECT(report.discarded + report.overrun, 0);
-    EXPECT(take_all(&taken, &files), ALOG_IDLE);
+    EXPECT(take_all(&taken, &files), ALOG_ENDED);
     EXPECT(alog_close(&files), ALOG_DONE);
     return report.faults;
 }

@@ -1,6 +1,7 @@
 /* Each call of a host on its files fails in turn, is interrupted, or takes a byte less: calls FOLDER. It is linked with --wrap for write, openat,
-   renameat, unlinkat, fdatasync, fsync and close. A call that fails is counted once and the rest goes on; the others lose nothing. Each open of a
-   start fails in turn, or is interrupted. And what was written is brought to the disk before its file is closed, and so are the folder's names. */
+   renameat, unlinkat, fdatasync, fsync and close, and for the library's take. A call that fails is counted once and the rest goes on; the others
+   lose nothing. Each open of a start fails in turn, or is interrupted. What was written is brought to the disk before its file is closed, and so are
+   the folder's names. And an end behind which the library does not say that all was taken is a failure. */
 #define _GNU_SOURCE
 #include "alog_host.h"
 #include "trial.h"
@@ -26,6 +27,8 @@ static enum way way;
    failed was an open */
 static char is_dirty[DESCRIPTORS];
 static int is_changed, closed_dirty, was_open;
+/* whether the library is to say that nothing is there where all was taken, and how often it was to say so */
+static int is_endless, ends;
 
 /* Whether this call is the one, and of a kind of which that may become. */
 static int is_it(int goes_on, int is_write)
@@ -53,6 +56,15 @@ int __wrap_unlinkat(int folder, const char *path, int flags);
 int __wrap_fdatasync(int descriptor);
 int __wrap_fsync(int descriptor);
 int __wrap_close(int descriptor);
+uint32_t __real_alog_c_take(alog_files *files, char *to, size_t room, size_t *length);
+uint32_t __wrap_alog_c_take(alog_files *files, char *to, size_t room, size_t *length);
+
+uint32_t __wrap_alog_c_take(alog_files *files, char *to, size_t room, size_t *length)
+{
+    const uint32_t answer = __real_alog_c_take(files, to, room, length);
+    ends += answer == ALOG_ENDED;
+    return answer == ALOG_ENDED && is_endless ? ALOG_IDLE : answer;
+}
 
 ssize_t __wrap_write(int descriptor, const void *bytes, size_t length)
 {
@@ -191,6 +203,21 @@ static void flush_seldom(const char *folder)
     EXPECT(length_of(folder, "a.1.txt"), 20);
 }
 
+/* The end of a host, where the library says that all was taken, and where it does not. */
+static void end_once(const char *folder, int endless)
+{
+    alog_report report;
+    int first = 0;
+    EXPECT(alog_start(&host, config, sizeof config - 1, folder, 1), ALOG_DONE);
+    ends = 0;
+    is_endless = endless;
+    EXPECT(alog_stop(&host, &report), ALOG_DONE);
+    is_endless = 0;
+    EXPECT(ends, 1);
+    EXPECT(alog_failures(&host, &first), endless);
+    EXPECT(first, endless ? EIO : 0);
+}
+
 /* A start while the call of this number goes wrong; answers whether there was one. It is refused where that was an open that failed, and nothing
    is left of it. */
 static int begin(const char *folder, int number)
@@ -224,6 +251,8 @@ int main(int argc, char **argv)
         EXPECT(number > 60, 1);
     }
     flush_seldom(argv[1]);
+    end_once(argv[1], 0);
+    end_once(argv[1], 1);
     for (int at = FAILS; at <= INTERRUPTED; at++) {
         int number = 1;
         way = (enum way)at;

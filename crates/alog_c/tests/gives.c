@@ -91,7 +91,7 @@ int main(int argc, char **argv)
     EXPECT(report.discarded, sum.discarded);
     EXPECT(report.handled, sum.posted);
     EXPECT(report.faults, 0);
-    EXPECT(take_all(&taken, &files), ALOG_IDLE);
+    EXPECT(take_all(&taken, &files), ALOG_ENDED);
     EXPECT(taken_length(&taken, "file"), 2 * sum.posted);
     EXPECT(alog_close(&files), ALOG_DONE);
     taken_clear(&taken);

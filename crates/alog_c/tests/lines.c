@@ -113,7 +113,8 @@ static void end(void)
     EXPECT(pool.kind + worker.kind + producer.kind, 0);
     EXPECT(files.kind, 5);
     EXPECT(taken_length(&taken, "log.txt"), strlen(wanted));
-    EXPECT(take_all(&taken, &files), ALOG_IDLE);
+    EXPECT(take_all(&taken, &files), ALOG_ENDED);
+    EXPECT(take_all(&taken, &files), ALOG_ENDED);
     if (EXPECT(taken_length(&taken, "log.txt"), all))
         EXPECT(memcmp(taken_text(&taken, "log.txt") + all - 17, "0 I net 0 :  a\0b\n", 17), 0);
     EXPECT(taken.count, 1);

@@ -298,7 +298,7 @@ static void other_pool(void)
     EXPECT(alog_give_producer(&own), ALOG_DONE);
     EXPECT(alog_shutdown(&other, &report), ALOG_DONE);
     EXPECT(report.handled, 1);
-    EXPECT(take_all(&taken, &own_files), ALOG_IDLE);
+    EXPECT(take_all(&taken, &own_files), ALOG_ENDED);
     EXPECT_TEXT(taken_text(&taken, "log.txt"), "x\n");
     EXPECT(alog_close(&own_files), ALOG_DONE);
     EXPECT(alog_take(&files, area, sizeof area, &length), ALOG_IDLE);
@@ -315,7 +315,7 @@ static void odd_pools(void)
     EXPECT(alog_open(&other, &own_files, config, sizeof config - 1, 0, 0, NULL, 0), ALOG_DONE);
     EXPECT(alog_make_producer(&other, &own), ALOG_TOO_MANY);
     EXPECT(alog_shutdown(&other, &report), ALOG_DONE);
-    EXPECT(take_all(&taken, &own_files), ALOG_IDLE);
+    EXPECT(take_all(&taken, &own_files), ALOG_ENDED);
     EXPECT(alog_close(&own_files), ALOG_DONE);
     EXPECT(alog_open(&other, &own_files, config, sizeof config - 1, SIZE_MAX, 1, NULL, 0), ALOG_DONE);
     for (int made = 0; made < 4096; made++)
@@ -360,7 +360,7 @@ static void sentences(void)
     EXPECT_TEXT(alog_says(ALOG_DONE), "It was done.");
     for (at = 0; at < 40; at++) {
         const char *says = alog_says(alog_answer_of(at));
-        int is_answer = at < 10 || (at >= 14 && at < 31);
+        int is_answer = at < 11 || (at >= 14 && at < 31);
         EXPECT(strcmp(says, none) != 0, is_answer);
         for (other = 0; other < at && is_answer; other++)
             if (strcmp(says, alog_says(alog_answer_of(other))) == 0)

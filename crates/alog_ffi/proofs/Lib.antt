@@ -3,3 +3,4 @@ pub mod Boxed
 pub mod Crosses
 pub mod News
 pub mod Unopened
+pub mod Lefts

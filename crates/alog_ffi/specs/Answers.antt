@@ -26,6 +26,7 @@ number_of answer.Spent = 6
 number_of answer.Idle = 7
 number_of answer.Soon = 8
 number_of answer.Held = 9
+number_of answer.Ended = 10
 number_of answer.NoHandle = 16
 number_of answer.WrongHandle = 17
 number_of answer.InUse = 18

@@ -1,5 +1,5 @@
 -- Calls of who does the calls on files, on handles.
-use Rattle.std.specs.Prelude.{◌≡◌, ◌⊎◌, ◌<◌, ◌≤◌, ◌++◌, ℕ, List, [], ◌∷◌, length, take, drop, slice_get, slice_set, Some, Vec}
+use Rattle.std.specs.Prelude.{◌≡◌, ◌⊎◌, ◌<◌, ◌≤◌, ◌++◌, ℕ, List, [], ◌∷◌, length, take, drop, slice_get, slice_set, All, Some, Vec}
 use Rattle.std.specs.Str.{IsUtf8}
 use Rattle.std.specs.String.{string_bytes}
 use Rattle.std.specs.declared.alloc.Global.{Global}
@@ -8,7 +8,7 @@ use Rattle.alog_ffi.specs.declared.answer.Answer.TheVariants as answer
 use Rattle.alog_ffi.specs.declared.part.Part.{Part}
 use Rattle.alog_ffi.specs.declared.part.Part.TheVariants.{Nothing, Found, Files}
 use Rattle.alog_outbox.specs.Calls.{AreRecords}
-use Rattle.alog_outbox.specs.Views.{DrainView}
+use Rattle.alog_outbox.specs.Views.{DrainView, HasAll}
 use Rattle.alog_outbox.specs.declared.TheConstants.{AREA}
 use Rattle.alog_outbox.specs.declared.found.FoundFile.{FoundFile}
 
@@ -41,13 +41,21 @@ OnFiles (Files ds) untouched f a new = (es : Vec DrainView Global) × (new ≡ F
 OnFiles Nothing untouched f a new = (new ≡ Nothing) × (a ≡ answer.NoHandle) × untouched
 OnFiles old untouched f a new = (new ≡ old) × (a ≡ answer.WrongHandle) × untouched
 
+-- Nothing was taken of these; of some it may be known now that their stores have ended.
+abbrev pub AreLeft : List DrainView → List DrainView → Type 0
+AreLeft [] [] = Unit {0}
+AreLeft (d ∷ ds) (e ∷ es) = (e.got ≡ d.got) × (e.line ≡ d.line) × AreLeft ds es
+AreLeft _ _ = ⊥
+
 -- These bytes were taken, which come next of one sink; what comes next of all others stays.
 pub record TakesOne (old : List DrainView) (bytes : List ℕ) (new : List DrainView) : Type 0 where
   pub at : ℕ
   pub was : DrainView
   pub now : DrainView
-  pub old_is : slice_get old at ≡ Some was
-  pub new_is : new ≡ slice_set old at now
+  pub left : List DrainView
+  pub others : AreLeft old left
+  pub old_is : slice_get left at ≡ Some was
+  pub new_is : new ≡ slice_set left at now
   pub line : now.line ≡ was.line
   pub got : now.got ≡ was.got ++ bytes
 
@@ -60,10 +68,12 @@ abbrev pub AreTaken : List ℕ → List ℕ → ℕ → List DrainView → List 
 AreTaken to into count old new =
     TakesOne old (take count into) new × AreRecords (take count into) × (drop count into ≡ drop count to) × (0 < count) × (count ≤ AREA)
 
--- Bytes were taken; or there are none now; or the memory has no room for an area.
+-- Bytes were taken; or there are none now; or the stores of all have ended, and what was taken are the records of all that they were told; or the memory has
+-- no room for an area.
 abbrev pub AnswersTake : List ℕ → List ℕ → ℕ → List DrainView → Answer → List DrainView → Type 0
 AnswersTake to into count old a new = ((a ≡ answer.Done) × (AREA ≤ length to) × AreTaken to into count old new)
-    ⊎ ((a ≡ answer.Idle) × (AREA ≤ length to) × (new ≡ old) × IsUntaken to into count)
+    ⊎ ((a ≡ answer.Idle) × (AREA ≤ length to) × AreLeft old new × IsUntaken to into count)
+    ⊎ ((a ≡ answer.Ended) × (AREA ≤ length to) × AreLeft old new × All HasAll new × IsUntaken to into count)
     ⊎ ((a ≡ answer.TooShort) × (length to < AREA) × (new ≡ old) × IsUntaken to into count)
 
 -- Files were let go, and the handle is empty; or it held something else, and still does.

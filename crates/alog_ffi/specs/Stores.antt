@@ -11,5 +11,5 @@ failures_of s = s.failures
 pub record Begins (found : List FoundFile) (s : OutboxView) (d : DrainView) : Type 0 where
   pub found_are : s.found ≡ found
   pub untold : (s.calls ≡ []) × (s.sent ≡ []) × (s.hand ≡ None) × (s.failures ≡ 0)
-  pub untaken : d.got ≡ []
+  pub untaken : (d.got ≡ []) × (d.told ≡ None)
   pub line : d.line ≡ s.line

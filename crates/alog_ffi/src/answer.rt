@@ -30,6 +30,8 @@ pub enum Answer {
     Soon = 8,
     /// The worker found the lock of a sink held.
     Held = 9,
+    /// All was taken that a pool, which has ended, told its files.
+    Ended = 10,
     /// Refused: the handle holds nothing.
     NoHandle = 16,
     /// Refused: the handle holds something else than it is to.

@@ -1,8 +1,9 @@
 //! Calls of who does the calls on files: which files there are before, and what is to be done to them.
-ghost use Rattle.std.specs.Prelude.{◌≡◌, ◌≢◌, ◌<◌, ◌≤◌, length, MatchOption};
-ghost use Rattle.alog_ffi.specs.Files.{AnswersClose, AnswersFirst, AnswersFound, AnswersTake, AddsTo, AreTaken, IsUntaken, OnFiles};
+ghost use Rattle.std.specs.Prelude.{◌≡◌, ◌≢◌, ◌<◌, ◌≤◌, length, All, IsTrue, MatchOption};
+ghost use Rattle.alog_ffi.specs.Files.{AnswersClose, AnswersFirst, AnswersFound, AnswersTake, AddsTo, AreLeft, AreTaken, IsUntaken, OnFiles};
 ghost use Rattle.alog_ffi.specs.Handles.{held};
 ghost use Rattle.alog_ffi.specs.declared.part.Part.TheVariants.{Nothing};
+ghost use Rattle.alog_outbox.specs.Views.{HasAll};
 
 use crate::answer::Answer;
 use crate::found_list::FoundList;
@@ -63,7 +64,8 @@ fn add(alloc: Global, files: &mut FoundList, name: &str, size: u64) -> Answer
 }
 
 /// Takes what is next to be done to the files of a sink: records, a whole number of them, at the front of memory that has room for an area. Of one sink
-/// they come in the order in which its calls were made. Where there is nothing now, that is the answer, and no bytes are told.
+/// they come in the order in which its calls were made. Where there is nothing now, that is the answer, and no bytes are told; where the pool has ended and
+/// all that it told its files was taken, that is the answer from then on.
 pub fn take(alloc: Global, at: &mut AlogHandle, to: &mut [u8], length: &mut usize) -> Answer
     ensures { OnFiles (held at.old) (IsUntaken to.old to.new length.new) (AnswersTake to.old to.new length.new) result (held at.new) }
 {
@@ -105,7 +107,11 @@ fn take_from(drains: &mut Vec<Drain>, to: &mut [u8], length: &mut usize) -> Answ
             return Answer::Done;
         }
     }
-    Answer::Idle
+    if have_ended(drains.as_slice()) {
+        Answer::Ended
+    } else {
+        Answer::Idle
+    }
 }
 
 /// Takes the next area of this sink, if it has one.
@@ -113,13 +119,25 @@ fn take_at(drains: &mut Vec<Drain>, number: usize, to: &mut [u8]) -> Option<usiz
     requires number { number < length drains.old.items }
     requires room { AREA ≤ length to.old }
     ensures count { length drains.new.items ≡ length drains.old.items }
-    ensures taken { MatchOption result ((drains.new.items ≡ drains.old.items) × (to.new ≡ to.old))
+    ensures taken { MatchOption result (AreLeft drains.old.items drains.new.items × (to.new ≡ to.old))
         (λ n. AreTaken to.old to.new n drains.old.items drains.new.items) }
 {
     match drains[number].take_into(to) {
         Ok(count) => Some(count),
         Err(_) => None,
     }
+}
+
+/// Whether the stores of all have ended.
+fn have_ended(drains: &[Drain]) -> bool
+    ensures { IsTrue result → All HasAll drains.now }
+{
+    for drain in drains {
+        if !drain.has_ended() {
+            return false;
+        }
+    }
+    true
 }
 
 /// Lets go of a list of files, or of what is still to be done to files, and empties the handle.

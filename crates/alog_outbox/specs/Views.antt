@@ -1,6 +1,6 @@
 -- What is seen of a store and of its drain.
 use Rattle.std.specs.Prelude.{◌≡◌, ℕ, ◌+◌, ◌≤◌, Bool, true, false, List, [], ◌∷◌, ◌++◌, length, Option, Some, None}
-use Rattle.alog_outbox.specs.Calls.{after, found_in, record_of}
+use Rattle.alog_outbox.specs.Calls.{after, encoded, found_in, record_of}
 use Rattle.alog_outbox.specs.declared.TheConstants.{AREA}
 use Rattle.alog_outbox.specs.declared.call.Call.{Call}
 use Rattle.alog_outbox.specs.declared.found.FoundFile.{FoundFile}
@@ -17,10 +17,15 @@ pub record OutboxView : Type 0 where
   pub failures : ℕ
   pub line : TableId
 
--- of a drain: the bytes that it has taken, and its queue
+-- of a drain: the bytes that it has taken; the calls that its store was told in its life, where that has ended and all was taken; and its queue
 pub record DrainView : Type 0 where
   pub got : List ℕ
+  pub told : Option (List Call)
   pub line : TableId
+
+-- its store has ended, and what it has taken are the records of all that the store was told
+abbrev pub HasAll : DrainView → Type 0
+HasAll d = (calls : List Call) × (d.told ≡ Some calls) × (d.got ≡ encoded calls)
 
 -- it is a store over the same files, at the same queue
 abbrev pub IsSameOutbox : OutboxView → OutboxView → Type 0

@@ -1,10 +1,12 @@
 //! The queues between a store and its drain: of full areas one way, and of empty ones the other.
-ghost use Rattle.std.specs.Prelude.{◌≡◌, ◌<◌, [], IfOk, IfErr, IfSome, IsTrue, OnOk, IsNone};
+ghost use Rattle.std.specs.Prelude.{◌≡◌, ◌<◌, false, [], IfOk, IfErr, IfSome, IsTrue, OnOk, IsNone};
 ghost use Rattle.alog_outbox.specs.Calls.{call};
-ghost use Rattle.alog_outbox.specs.Line.{getting, known, sending, telling, IsReader, IsSent, IsWriter};
+ghost use Rattle.alog_outbox.specs.Calls.{encoded};
+ghost use Rattle.alog_outbox.specs.Line.{getting, known, sending, telling, Gets, IsReader, IsSent, IsWriter};
 
 use crate::area::Area;
 use crate::call::{Call, Kind};
+use crate::letter::Letter;
 use crossbeam_queue::protocol::{Free, Join, Lesson, Outcome, Protocol, Split};
 use crossbeam_queue::{Pass, RuledArrayQueue};
 use std::alloc::{AllocError, Global};
@@ -12,19 +14,21 @@ use std::collections::LinkedList;
 use std::marker::{Brand, PhantomData};
 use std::mem;
 
-/// What a pass may do (push, pop), what its store was told, and the bytes that it has pushed, and popped. No value of it is made.
+/// What a pass may do (push, pop), whether it popped the end, what its store was told, and the bytes that it has pushed, and popped. No value of it is made.
 pub(crate) struct Log {
     pub(crate) pushes: bool,
     pub(crate) pops: bool,
+    pub(crate) is_over: bool,
     pub(crate) calls: LinkedList<Call>,
     pub(crate) sent: LinkedList<u8>,
     pub(crate) got: LinkedList<u8>,
 }
 
-/// The rule: what was pushed is what was popped and then what lies there, and in each area that lies there are whole records, and not none.
+/// The rule: what was pushed is what was popped and then what lies there; in each area that lies there are whole records, and not none; and the end is the
+/// last, behind the records of all calls.
 pub(crate) struct InOrder;
 
-impl Protocol<Area, Log> for InOrder {
+impl Protocol<Letter, Log> for InOrder {
     ghost use Rattle.std.specs.Prelude.{true, []};
     ghost use Rattle.alog_outbox.specs.Line.{log, Relayed};
 
@@ -34,10 +38,10 @@ impl Protocol<Area, Log> for InOrder {
 }
 
 /// The queue of full areas.
-pub(crate) type Line = RuledArrayQueue<Area, Log, InOrder>;
+pub(crate) type Line = RuledArrayQueue<Letter, Log, InOrder>;
 
 /// What the store, or the drain, knows of it. It has no bytes.
-pub(crate) type LinePass = Pass<Area, Log>;
+pub(crate) type LinePass = Pass<Letter, Log>;
 
 /// The queue of empty areas.
 pub(crate) type Spares = RuledArrayQueue<Area, (), Free>;
@@ -51,20 +55,28 @@ pub(crate) struct Common {
 
 struct Sent;
 
-impl Outcome<Area, Log> for Sent {
-    ghost use Rattle.std.specs.Prelude.{◌≡◌};
-    ghost use Rattle.alog_outbox.specs.Line.{sending};
+impl Outcome<Letter, Log> for Sent {
+    ghost use Rattle.std.specs.Prelude.{◌≡◌, ◌∷◌, []};
+    ghost use Rattle.alog_outbox.specs.Line.{carried, sending};
 
-    ghost then = { λ v x w. w ≡ sending x v };
+    ghost then = { λ v x w. w ≡ sending (carried (x ∷ [])) v };
+}
+
+/// The end, behind which its pass may push no more.
+struct Closed;
+
+impl Outcome<Letter, Log> for Closed {
+    ghost use Rattle.std.specs.Prelude.{◌≡◌, false};
+
+    ghost then = { λ v x w. w ≡ record v { pushes = false } };
 }
 
 struct Got;
 
-impl Outcome<Area, Log> for Got {
-    ghost use Rattle.std.specs.Prelude.{◌≡◌};
-    ghost use Rattle.alog_outbox.specs.Line.{getting, IsSent};
+impl Outcome<Letter, Log> for Got {
+    ghost use Rattle.alog_outbox.specs.Line.{Gets};
 
-    ghost then = { λ v x w. (w ≡ getting x v) × IsSent x };
+    ghost then = { Gets };
 }
 
 /// One pass pushes, and the other pops.
@@ -103,11 +115,11 @@ impl Split<Log> for Idle {
 /// What was pushed is what was popped, and then what lies there.
 struct Total;
 
-impl Lesson<Area, Log> for Total {
+impl Lesson<Letter, Log> for Total {
     ghost use Rattle.std.specs.Prelude.{◌≡◌, ◌++◌};
-    ghost use Rattle.std.specs.List.{concat};
+    ghost use Rattle.alog_outbox.specs.Line.{carried};
 
-    ghost fact = { λ v items. v.sent ≡ v.got ++ concat items };
+    ghost fact = { λ v items. v.sent ≡ v.got ++ carried items };
 }
 
 /// A call that is told.
@@ -147,6 +159,7 @@ pub(crate) fn line_for(
     ensures writer { IfOk result (λ l. IsWriter l.0 l.1) }
     ensures reader { IfOk result (λ l. IsReader l.0 l.2) }
     ensures empty { IfOk result (λ l. ((known l.1).calls ≡ []) × ((known l.1).sent ≡ []) × ((known l.2).got ≡ [])) }
+    ensures open { IfOk result (λ l. (known l.2).is_over ≡ false) }
 {
     let (line, mut pass) = Line::ruled(alloc, areas)?;
     let reader = line.another::<Roles>(&mut pass);
@@ -161,14 +174,26 @@ pub(crate) fn send(line: &Line, pass: &mut LinePass, area: Area) -> Result<(), A
     ensures sent { OnOk result (known pass.new ≡ sending area (known pass.old)) }
     ensures back { IfErr result (λ a. (a ≡ area) × (known pass.new ≡ known pass.old)) }
 {
-    line.try_push_as::<Sent>(pass, area)
+    match line.try_push_as::<Sent>(pass, Letter::Area(area)) {
+        Ok(()) => Ok(()),
+        Err(Letter::Area(area)) => Err(area),
+        Err(Letter::End) => unreachable!(),
+    }
 }
 
-/// Pops an area. There may be none.
-pub(crate) fn receive(line: &Line, pass: &mut LinePass) -> Option<Area>
+/// Pushes the end, behind the records of all that the store was told.
+pub(crate) fn send_end(line: &Line, mut pass: LinePass)
+    requires pass { IsWriter line.now pass }
+    requires all { (known pass).sent ≡ encoded (known pass).calls }
+{
+    let _ = line.try_push_as::<Closed>(&mut pass, Letter::End);
+}
+
+/// Pops what is next: an area, or the end. There may be nothing.
+pub(crate) fn receive(line: &Line, pass: &mut LinePass) -> Option<Letter>
     requires pass { IsReader line.now pass.old }
     ensures pass { IsReader line.now pass.new }
-    ensures got { IfSome result (λ a. (known pass.new ≡ getting a (known pass.old)) × IsSent a) }
+    ensures got { IfSome result (λ x. Gets (known pass.old) x (known pass.new)) }
     ensures none { IsNone result → known pass.new ≡ known pass.old }
 {
     line.try_pop_as::<Got>(pass)
@@ -196,10 +221,11 @@ fn tell_as<T: Told>(line: &Line, pass: &mut LinePass, _kind: Kind, _name: &[u8],
 pub(crate) fn all_got(line: &Line, writer: &mut LinePass, reader: &mut LinePass) -> bool
     requires writer { IsWriter line.now writer.old }
     requires reader { IsReader line.now reader.old }
+    requires open { (known reader.old).is_over ≡ false }
     ensures writer { IsWriter line.now writer.new }
     ensures reader { IsReader line.now reader.new }
     ensures told { ((known writer.new).calls ≡ (known writer.old).calls) × ((known writer.new).sent ≡ (known writer.old).sent) }
-    ensures got { (known reader.new).got ≡ (known reader.old).got }
+    ensures got { ((known reader.new).got ≡ (known reader.old).got) × ((known reader.new).is_over ≡ false) }
     ensures all { IsTrue result → (known writer.old).sent ≡ (known reader.old).got }
 {
     let idle = line.another::<Idle>(writer);

@@ -20,7 +20,7 @@ pub fn outbox(
 ) -> Result<(Outbox, Drain), AllocError>
     ensures told { IfOk result (λ o. (o.0.calls ≡ []) × (o.0.sent ≡ []) × (o.0.hand ≡ None) × (o.0.failures ≡ 0)) }
     ensures found { IfOk result (λ o. o.0.found ≡ (arc_value found).items) }
-    ensures got { IfOk result (λ o. o.1.got ≡ []) }
+    ensures got { IfOk result (λ o. (o.1.got ≡ []) × (o.1.told ≡ None)) }
     ensures line { IfOk result (λ o. o.1.line ≡ o.0.line) }
 {
     let areas = areas.max(1);

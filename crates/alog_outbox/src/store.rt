@@ -10,7 +10,7 @@ use crate::area::{Area, HEADER};
 use crate::call::Kind;
 use crate::found::{FoundFile, size_of};
 use crate::hand::{is_empty, send_hand, write};
-use crate::line::{Common, LinePass};
+use crate::line::{Common, LinePass, send_end};
 use alog_sink::{Store, StoreError};
 use std::marker::Model;
 use std::sync::Arc;
@@ -19,8 +19,8 @@ use std::{fmt, io};
 /// A store that keeps no files: what it is told is written down, for its `Drain`.
 ///
 /// Its files are those that were found, after the calls that it was told; what a file that was found holds, it does not know, so that it stands as
-/// zeros. A call takes no memory. It fails where its record has no room in an empty area, and where no area is left: then the drain is behind.
-#[derive(Drop)]
+/// zeros. A call takes no memory. It fails where its record has no room in an empty area, and where no area is left: then the drain is behind. Where it is
+/// let go, it sends what is in hand, and behind that the end, so that the drain can say that all was taken.
 pub struct Outbox {
     pub(crate) common: Arc<Common>,
     pub(crate) pass: LinePass,
@@ -61,6 +61,23 @@ impl fmt::Debug for Outbox {
         f.debug_struct("Outbox")
             .field("failures", &self.failures)
             .finish_non_exhaustive()
+    }
+}
+
+impl Drop for Outbox {
+    fn drop(self) {
+        let Outbox {
+            common,
+            mut pass,
+            mut hand,
+            found: _,
+            is_told: _,
+            failures: _,
+        } = self;
+        let common: &Common = &common;
+        if send_hand(common, &mut pass, &mut hand) {
+            send_end(&common.line, pass);
+        }
     }
 }
 

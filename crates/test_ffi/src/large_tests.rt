@@ -84,12 +84,17 @@ fn are_next(alloc: Global, taken: &mut Taken, bytes: &[u8]) -> Result<bool, Allo
     Ok(false)
 }
 
-/// Takes all that is there, and answers whether it is what is next.
-fn takes_all(alloc: Global, trial: &mut Trial, taken: &mut Taken) -> Result<bool, AllocError> {
+/// Takes all that is there, and answers whether it is what is next, and this is said behind it.
+fn takes_all(
+    alloc: Global,
+    trial: &mut Trial,
+    taken: &mut Taken,
+    behind: Answer,
+) -> Result<bool, AllocError> {
     for _ in 0..TRIES {
         let (answer, length) = trial.take(FILES, AREA);
         if answer != Answer::Done {
-            return Ok(answer == Answer::Idle && length == 0);
+            return Ok(answer == behind && length == 0);
         }
         if !are_next(alloc, taken, trial.bytes(length))? {
             return Ok(false);
@@ -114,7 +119,7 @@ fn logs(
         == (Answer::WouldBlock, true);
     let is_emptied = trial.does(Deed::Works(WRITER, QUEUE, QUEUE as u64)) == (Answer::Done, true);
     let is_idle = trial.does(Deed::Works(WRITER, 1, 0)) == (Answer::Idle, true);
-    let is_next = takes_all(alloc, trial, taken)?;
+    let is_next = takes_all(alloc, trial, taken, Answer::Idle)?;
     let is_logged = trial.does(Deed::Says(TALKER, text.as_bytes(), number)) == (Answer::Done, true);
     Ok(is_full && is_emptied && is_idle && is_next && is_logged)
 }
@@ -154,7 +159,7 @@ fn run(alloc: Global, trial: &mut Trial) -> Result<Option<Taken>, AllocError> {
         renames: 0,
     };
     let is_well = starts(trial) && logs_all(alloc, trial, &mut taken)? && ends(trial);
-    let is_taken = takes_all(alloc, trial, &mut taken)?;
+    let is_taken = takes_all(alloc, trial, &mut taken, Answer::Ended)?;
     if is_well && is_taken {
         return Ok(Some(taken));
     }

@@ -281,7 +281,7 @@ static ONE_AREA_FULL: &[Row<'static>] = &[
     (Deed::Gives(TALKER), Answer::Done),
     (Deed::Gives(WRITER), Answer::Done),
     (Deed::Ends(POOL, [3, 3, 0, 0, 3, 3]), Answer::Done),
-    (Deed::Takes(FILES, AREA, &[]), Answer::Idle),
+    (Deed::Takes(FILES, AREA, &[]), Answer::Ended),
     (Deed::Closes(FILES), Answer::Done),
 ];
 

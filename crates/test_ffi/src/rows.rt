@@ -38,7 +38,9 @@ pub static END: &[Row<'static>] = &[
         Deed::Takes(FILES, AREA, &[(4, b"a.log", b"")]),
         Answer::Done,
     ),
-    (Deed::Takes(FILES, AREA, &[]), Answer::Idle),
+    (Deed::Takes(FILES, AREA, &[]), Answer::Ended),
+    (Deed::Takes(FILES, AREA - 1, &[]), Answer::TooShort),
+    (Deed::Takes(FILES, AREA, &[]), Answer::Ended),
     (Deed::Closes(FILES), Answer::Done),
 ];
 

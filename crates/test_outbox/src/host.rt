@@ -20,6 +20,8 @@ pub enum Taken {
     Records(usize),
     /// There was nothing.
     Nothing,
+    /// The store has ended, and all was taken.
+    Ended,
     /// The bytes are no records.
     Bad,
 }
@@ -99,6 +101,7 @@ impl Host {
         let count = match drain.take_into(self.room.as_mut_slice()) {
             Ok(count) => count,
             Err(TakeError::Nothing) => return Ok(Taken::Nothing),
+            Err(TakeError::Ended) => return Ok(Taken::Ended),
             Err(TakeError::TooShort) => return Ok(Taken::Bad),
         };
         let Some(mut bytes) = self.room.as_slice().get(..count) else {
@@ -127,7 +130,7 @@ impl Host {
         for _ in 0..most {
             match self.take(drain)? {
                 Taken::Records(records) => all = all.saturating_add(records),
-                Taken::Nothing => return Ok(Some(all)),
+                Taken::Nothing | Taken::Ended => return Ok(Some(all)),
                 Taken::Bad => return Ok(None),
             }
         }

@@ -24,18 +24,7 @@ fn append(rt: &impl Abort, store: &mut Outbox, line: &str) {
     panic!(rt; "no area")
 }
 
-/// Flushes, as soon as there is an area.
-fn flush(rt: &impl Abort, store: &mut Outbox) {
-    for _ in 0..LOOKS {
-        match store.flush("log") {
-            Ok(()) => return,
-            Err(_) => thread::yield_now(),
-        }
-    }
-    panic!(rt; "no area")
-}
-
-/// Writes all lines, of which each is its number, and flushes.
+/// Writes all lines, of which each is its number, and lets the store go, which sends the last of them.
 fn write(rt: &impl Abort, alloc: Global, mut store: Outbox) {
     for number in 0..LINES {
         let Ok(line) = format!(in alloc; "{number}\n") else {
@@ -43,20 +32,20 @@ fn write(rt: &impl Abort, alloc: Global, mut store: Outbox) {
         };
         append(rt, &mut store, line.as_str());
     }
-    flush(rt, &mut store);
 }
 
-/// Takes areas until so many records were carried out.
+/// Takes areas until the store has ended, by when so many records were carried out.
 fn drained(rt: &impl Abort, mut host: Host, mut drain: Drain, wanted: usize) -> Host {
     let mut all: usize = 0;
     for _ in 0..LOOKS {
         match host.take(&mut drain) {
             Ok(Taken::Records(records)) => all = all.saturating_add(records),
             Ok(Taken::Nothing) => thread::yield_now(),
+            Ok(Taken::Ended) => {
+                assert!(rt; all == wanted);
+                return host;
+            }
             _ => panic!(rt; "bad records"),
-        }
-        if all >= wanted {
-            return host;
         }
     }
     panic!(rt; "no end")
@@ -91,11 +80,10 @@ fn joined(
     drain: Drain,
     host: Host,
 ) -> Host {
-    let wanted = (LINES as usize).saturating_add(1);
     let ((), host) = thread::join(
         rt,
         move || write(rt, alloc, store),
-        move || drained(rt, host, drain, wanted),
+        move || drained(rt, host, drain, LINES as usize),
     );
     host
 }
