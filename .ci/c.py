@@ -46,6 +46,7 @@ PROGRAMS = [
     Program("faults", [[]], [], True),
     Program("calls", [[]], [CALLS], False),
     Program("gives", [[]], [], True),
+    Program("forks", [[]], [], False),
     Program("bells", [[]], [], True),
     Program("million", MILLIONS, [], True),
 ]

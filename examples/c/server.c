@@ -43,7 +43,7 @@ int main(int argc, char **argv)
     static char config[65536];
     int numbers[THREADS];
     pthread_t threads[THREADS];
-    alog_report report;
+    alog_report report = {0, 0, 0, 0, 0, 0};
     alog_answer answer;
     if (argc != 3) {
         fputs("server: wanted are a configuration and a folder\n", stderr);

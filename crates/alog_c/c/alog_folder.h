@@ -181,8 +181,10 @@ static inline int alog_host_sync(alog_host *host, const alog_record *record)
     file->is_dirty = 0;
     if (!host->is_changed)
         return 0;
+    if (alog_sync(host->folder, 1) != 0 && errno != EINVAL)
+        return -1;
     host->is_changed = 0;
-    return alog_sync(host->folder, 1) != 0 && errno != EINVAL ? -1 : 0;
+    return 0;
 }
 
 /* Renames a file. Where that fails it keeps its name, and so does the next one, which was to get that name: it would replace the one that
@@ -411,8 +413,10 @@ static inline void alog_folder_close(alog_host *host)
         alog_close(&host->files);
     for (number = 0; number < ALOG_OPEN_FILES; number++)
         alog_file_close(host, &host->open[number]);
-    if (host->held >= 0)
+    if (host->held >= 0) {
+        flock(host->held, LOCK_UN);
         close(host->held);
+    }
     if (host->folder >= 0)
         close(host->folder);
     free(host->area);

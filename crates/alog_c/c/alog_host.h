@@ -16,7 +16,7 @@
    for gnu99 or later. A process that forks starts its host in the child.
 
    No call is made from a handler of a signal, no thread is cancelled within a call, and a child of a fork uses no host of its parent: it has
-   none of its threads. The threads of workers hold all signals back but those of a fault of their own, as SIGSEGV.
+   none of its threads. There alog_stop and alog_client_close do nothing, and answer ALOG_NO_HANDLE. The threads of workers hold all signals back but those of a fault of their own, as SIGSEGV.
 
    Files. The folder has to be there. It is held by a lock on its file `.alog.lock`, as the program `alog` holds it: two that rotate the same
    files would lose some. What a sink is to go on in is looked at once, at the start. A start is refused where a sink's file is there and cannot
@@ -26,9 +26,10 @@
 
    A call of the system that fails later is counted, its errno is kept where it is the first, and the others go on: alog_failures tells both.
    What could not be written is missing, so the last line in front of it may be cut, and the next one then stands behind it without a new line.
-   Where a file of a rotation cannot be renamed, those that would come behind it keep their names, so that none is replaced, and the sink goes on
-   in the file that it has until a later rotation can be made. A flush brings lines to the system, and, where the options say `sync`, to the
-   disk, with the names of the folder; then a file is also brought there before it is closed or renamed.
+   Where a file of a rotation cannot be renamed, those that would come behind it keep their names, so that it is not replaced, and the sink goes
+   on in the file that it has until a later rotation can be made. Those in front of it, which are older, were renamed by then, and are at each
+   try: so the oldest of them go, though no new one comes. A flush brings lines to the system, and, where the options say `sync`, to the disk,
+   with the names of the folder; then a file is also brought there before it is closed or renamed.
 
    Areas. Each sink has so many areas of ALOG_AREA bytes (128 KiB), which workers fill and which are empty again when they were taken. A sink
    that finds none empty is broken for good, so there have to be enough. A worker's call ends so many messages as `batch` says, and behind it
@@ -38,7 +39,8 @@
    if each message flushes. Where only the rest flushes, workers * (3 + batch * (line + 80) / ALOG_AREA) are, with the bytes of the longest
    line: 4 for a worker with lines up to 8,000 bytes. A host has 16 for each worker where its options say 0, and ends at most areas /
    workers - 2 messages in a call, so 14 of them then, at least 1 and at most ALOG_BATCH. More areas are wanted where messages make more than
-   lines: a rotation takes max_files * 200 / ALOG_AREA more, which is 2 for a thousand files.
+   lines: each rotation takes max_files * 200 / ALOG_AREA more, which is 2 for a thousand files, and a call makes at most one for each message:
+   workers * (3 * batch + 2) are enough then.
 
    Why nobody sleeps through what he waits for. Whoever is about to sleep adds himself to the bell's `sleepers`, then looks once more, and
    sleeps only if there was nothing. Whoever brings something does so first, and then reads `sleepers`: if it is 0 he is done, else he turns
@@ -267,6 +269,7 @@ static inline enum alog_answer alog_start_with(alog_host *host, const char *docu
     host->workers = 0;
     host->clients = 0;
     host->is_ending = 0;
+    host->process = getpid();
     host->is_open = 1;
     while (host->workers < options->workers && answer == ALOG_DONE)
         answer = alog_seat_start(host, &host->seats[host->workers]);
@@ -292,7 +295,7 @@ static inline enum alog_answer alog_stop(alog_host *host, alog_report *report)
     size_t clients;
     if (host == NULL || report == NULL)
         return ALOG_NULL;
-    if (!host->is_open)
+    if (!host->is_open || host->process != getpid())
         return ALOG_NO_HANDLE;
     pthread_mutex_lock(&host->lock);
     clients = host->clients;
@@ -319,6 +322,20 @@ static inline enum alog_answer alog_client_open(alog_host *host, alog_client *cl
     return answer;
 }
 
+/* Finds the number of a logger by its name, without a client. */
+static inline enum alog_answer alog_host_find(alog_host *host, const char *name, uint32_t *logger)
+{
+    enum alog_answer answer;
+    if (host == NULL)
+        return ALOG_NULL;
+    if (!host->is_open)
+        return ALOG_NO_HANDLE;
+    pthread_mutex_lock(&host->lock);
+    answer = alog_find_in_pool(&host->pool, name, logger);
+    pthread_mutex_unlock(&host->lock);
+    return answer;
+}
+
 /* Closes a client. */
 static inline enum alog_answer alog_client_close(alog_client *client)
 {
@@ -326,7 +343,7 @@ static inline enum alog_answer alog_client_close(alog_client *client)
     alog_host *host = client == NULL ? NULL : client->host;
     if (client == NULL)
         return ALOG_NULL;
-    if (host == NULL)
+    if (host == NULL || host->process != getpid())
         return ALOG_NO_HANDLE;
     pthread_mutex_lock(&host->lock);
     answer = alog_give_back(&client->producer);

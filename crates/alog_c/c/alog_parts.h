@@ -111,6 +111,8 @@ typedef struct alog_host {
     size_t ring_behind;
     size_t clients;
     uint32_t is_open;
+    /* the process that started it, whose child has none of its threads */
+    pid_t process;
     uint32_t is_ending;
     alog_seat seats[ALOG_WORKERS_MAX];
     /* how many calls on files failed, and the errno of the first, which stay there when the host was stopped */

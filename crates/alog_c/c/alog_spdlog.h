@@ -14,12 +14,15 @@
 // does what a thread logs when its thread-local objects are destroyed and its client is gone. A message whose source is too long goes without it.
 // What is discarded since the queue is full is told by the report alone.
 //
+// A child of a fork has none of the host's threads, and may not log by it. It may end by exit: the host is left as it is there.
+//
 // C++11, and spdlog 1.5 or later.
 #ifndef ALOG_SPDLOG_H
 #define ALOG_SPDLOG_H
 
 #include "alog_host.h"
 
+#include <algorithm>
 #include <atomic>
 #include <chrono>
 #include <memory>
@@ -39,16 +42,17 @@ inline void expect(alog_answer answer, const std::string &more = "") {
         throw spdlog::spdlog_ex(std::string("alog: ") + alog_says(answer) + (more.empty() ? "" : " " + more));
 }
 
+class host;
+
+std::shared_ptr<host> make_host(const std::string &document, const std::string &folder, const alog_options &options);
+
 // A pool with its workers' threads, and the clients of all threads that log. It is held by shared pointers, and ends with the last of them.
 class host : public std::enable_shared_from_this<host> {
   public:
-    host(const std::string &document, const std::string &folder, const alog_options &options) : number_(next_number()) {
-        const alog_answer answer = alog_start_with(&host_, document.data(), document.size(), folder.c_str(), &options);
-        expect(answer, host_.told);
-    }
-
     ~host() {
         alog_report report;
+        if (!is_own())
+            return;
         close_all();
         alog_stop(&host_, &report);
     }
@@ -60,6 +64,7 @@ class host : public std::enable_shared_from_this<host> {
     // refused.
     alog_report stop() {
         alog_report report{};
+        expect(is_own() ? ALOG_DONE : ALOG_NO_HANDLE);
         close_all();
         expect(alog_stop(&host_, &report));
         return report;
@@ -71,7 +76,8 @@ class host : public std::enable_shared_from_this<host> {
     // The number of a logger.
     std::uint32_t find(const std::string &name) {
         std::uint32_t logger = 0;
-        expect(alog_find(&mine().producer, name.c_str(), &logger), name);
+        // (a name ends by its first zero there)
+        expect(name.find('\0') == std::string::npos ? alog_host_find(&host_, name.c_str(), &logger) : ALOG_NO_LOGGER, name);
         return logger;
     }
 
@@ -86,6 +92,16 @@ class host : public std::enable_shared_from_this<host> {
     }
 
   private:
+    friend std::shared_ptr<host> make_host(const std::string &document, const std::string &folder, const alog_options &options);
+
+    host(const std::string &document, const std::string &folder, const alog_options &options) : number_(next_number()) {
+        const alog_answer answer = alog_start_with(&host_, document.data(), document.size(), folder.c_str(), &options);
+        expect(answer, host_.told);
+    }
+
+    // Whether this is the process that started it, and no child, which has none of its threads, and a lock that one of them may have held.
+    bool is_own() const { return host_.process == getpid(); }
+
     // A client that a thread has until it ends, of a host that may end before.
     struct lease {
         std::uint64_t number;
@@ -121,7 +137,9 @@ class host : public std::enable_shared_from_this<host> {
 
     alog_client &lend() {
         const std::lock_guard<std::mutex> guard(lock_);
-        leases().all.reserve(leases().all.size() + 1);
+        std::vector<lease> &all = leases().all;
+        all.erase(std::remove_if(all.begin(), all.end(), [](const lease &it) { return it.from.expired(); }), all.end());
+        all.reserve(all.size() + 1);
         if (free_.empty()) {
             free_.reserve(clients_.size() + 1);
             clients_.emplace_back(new alog_client{});
@@ -136,6 +154,8 @@ class host : public std::enable_shared_from_this<host> {
     }
 
     void take_back(alog_client *client) {
+        if (!is_own())
+            return;
         const std::lock_guard<std::mutex> guard(lock_);
         free_.push_back(client);
     }
@@ -188,7 +208,7 @@ class spdlog_sink : public spdlog::sinks::sink {
 
 // Starts a host with a configuration, over the files of a folder.
 inline std::shared_ptr<host> make_host(const std::string &document, const std::string &folder, const alog_options &options) {
-    return std::make_shared<host>(document, folder, options);
+    return std::shared_ptr<host>(new host(document, folder, options));
 }
 
 // The same with so many workers.

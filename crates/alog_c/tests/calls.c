@@ -27,8 +27,9 @@ static enum way way;
    failed was an open */
 static char is_dirty[DESCRIPTORS];
 static int is_changed, closed_dirty, was_open;
-/* whether the library is to say that nothing is there where all was taken, and how often it was to say so */
-static int is_endless, ends;
+/* whether the library is to say that nothing is there where all was taken, and how often it was to say so; and whether the next sync of the folder
+   fails */
+static int is_endless, ends, is_refused;
 
 /* Whether this call is the one, and of a kind of which that may become. */
 static int is_it(int goes_on, int is_write)
@@ -119,6 +120,11 @@ int __wrap_fsync(int descriptor)
     EXPECT(descriptor, host.folder);
     if (is_it(1, 0))
         return refuse();
+    if (is_refused) {
+        is_refused = 0;
+        errno = EIO;
+        return -1;
+    }
     is_changed = 0;
     return 0;
 }
@@ -203,6 +209,26 @@ static void flush_seldom(const char *folder)
     EXPECT(length_of(folder, "a.1.txt"), 20);
 }
 
+/* The folder's names, which a flush could not bring to the disk, are brought there by the next one. */
+static void names_again(const char *folder)
+{
+    static const alog_options options = {1, 1, 0, 1};
+    static const char one[] = "queue = 64\n[[sink]]\nname = \"d\"\nkind = \"memory\"\nfile = \"d.txt\"\npattern = \"%v\"\n"
+                              "[[logger]]\nname = \"net\"\nflush_on = \"info\"\nsinks = [\"d\"]\n";
+    alog_client client = {NULL, {0, NULL}};
+    alog_report report;
+    EXPECT(alog_start_with(&host, one, sizeof one - 1, folder, &options), ALOG_DONE);
+    EXPECT(alog_client_open(&host, &client), ALOG_DONE);
+    is_refused = 1;
+    for (int i = 0; i < LINES; i++)
+        EXPECT(alog_log_wait(&client, 0, ALOG_INFO, "of ten...", 9), ALOG_DONE);
+    EXPECT(alog_client_close(&client), ALOG_DONE);
+    EXPECT(alog_stop(&host, &report), ALOG_DONE);
+    EXPECT(is_refused, 0);
+    EXPECT(host.failures, 1);
+    EXPECT(is_changed, 0);
+}
+
 /* The end of a host, where the library says that all was taken, and where it does not. */
 static void end_once(const char *folder, int endless)
 {
@@ -251,6 +277,7 @@ int main(int argc, char **argv)
         EXPECT(number > 60, 1);
     }
     flush_seldom(argv[1]);
+    names_again(argv[1]);
     end_once(argv[1], 0);
     end_once(argv[1], 1);
     for (int at = FAILS; at <= INTERRUPTED; at++) {

@@ -6,6 +6,19 @@
 #include <thread>
 #include <vector>
 
+#include <malloc.h>
+#include <signal.h>
+#include <sys/wait.h>
+
+// (under a sanitizer a child that ends by exit ends otherwise)
+#if defined(__SANITIZE_ADDRESS__) || defined(__SANITIZE_THREAD__)
+#define IS_SANITIZED
+#elif defined(__has_feature)
+#if __has_feature(address_sanitizer) || __has_feature(thread_sanitizer)
+#define IS_SANITIZED
+#endif
+#endif
+
 namespace {
 
 const std::string config = "queue = 64\nworkers = 2\ntext = 100\n[[sink]]\nname = \"file\"\nkind = \"memory\"\nfile = \"log.txt\"\npattern = \"%n %L %s:%# %v\"\n"
@@ -31,7 +44,7 @@ std::string content(const std::string &folder) {
 
 // A hundred times four threads use four clients, since those of threads that ended go on.
 void threads_that_come_and_go(const std::string &folder) {
-    const auto host = alog::make_host(config, folder, alog_options{2, 5, 0, 0});
+    const auto host = alog::make_host(config, folder, alog_options{2, 4, 0, 0});
     const auto logger = alog::make_logger(host, "net");
     std::size_t errors = 0;
     logger->set_error_handler([&errors](const std::string &) { errors++; });
@@ -122,7 +135,71 @@ void ends_of_threads(const std::string &folder) {
     EXPECT(host->stop().handled, 3);
 }
 
+#ifndef IS_SANITIZED
+// Whether a child has ended by itself within five seconds; one that has not is ended.
+bool has_ended(pid_t child) {
+    for (int i = 0; i < 5000 && trial_failed < 8; i++) {
+        if (waitpid(child, nullptr, WNOHANG) == child)
+            return true;
+        std::this_thread::sleep_for(std::chrono::milliseconds(1));
+    }
+    kill(child, SIGKILL);
+    waitpid(child, nullptr, 0);
+    return false;
+}
+
+// Children that end by exit, which destroys their copy of a host: they end, and write nothing.
+void children(const std::string &folder) {
+    static std::shared_ptr<alog::host> host;
+    static std::shared_ptr<spdlog::logger> net;
+    host = alog::make_host(config, folder, 1);
+    net = alog::make_logger(host, "net");
+    std::remove(path_of(folder.c_str(), "log.txt"));
+    for (int i = 0; i < 20; i++) {
+        net->info("x");
+        // (a worker that sleeps, and one that does not yet)
+        std::this_thread::sleep_for(std::chrono::milliseconds(i % 2 * 5));
+        const pid_t child = fork();
+        if (child == 0)
+            std::exit(0);
+        EXPECT(has_ended(child), 1);
+    }
+    net.reset();
+    EXPECT(host->stop().handled, 20);
+    host.reset();
+    EXPECT(content(folder).size(), 20 * std::string("net I : x\n").size());
+}
+#endif
+
+// How many bytes are allocated, where the C library tells.
+std::size_t allocated() {
+#if defined(__GLIBC__) && __GLIBC_PREREQ(2, 33)
+    return mallinfo2().uordblks;
+#else
+    return 0;
+#endif
+}
+
+void one_host(const std::string &folder) {
+    const auto host = alog::make_host(config, folder, 1);
+    alog::make_logger(host, "net")->info("x");
+    EXPECT(host->stop().handled, 1);
+}
+
+// Nothing stays of hosts that have ended, though the thread that logged goes on.
+void hosts_that_come_and_go(const std::string &folder) {
+    for (int round = 0; round < 10; round++)
+        one_host(folder);
+    const std::size_t before = allocated();
+    for (int round = 0; round < 50; round++)
+        one_host(folder);
+    EXPECT(allocated() < before + 50 * 1000, 1);
+}
+
 void refusals(const std::string &folder) {
+    const auto host = alog::make_host(config, folder, 1);
+    EXPECT(thrown([&host] { host->find(std::string("net\0work", 8)); }).find("There is no such logger.") != std::string::npos, 1);
+    host->stop();
     EXPECT(thrown([&folder] { alog::make_host("queue = 3", folder, 1); }).find("it may have a power of two, 2 to 65536") != std::string::npos, 1);
     EXPECT(thrown([&folder] { alog::make_host(config, folder + "/absent", 1); }).find("no files can be written") != std::string::npos, 1);
     EXPECT(thrown([&folder] { alog::make_host(config, folder, 3); }).empty(), 0);
@@ -140,6 +217,10 @@ int main(int argc, char **argv) {
     messages(argv[1]);
     sources(argv[1]);
     ends_of_threads(argv[1]);
+    hosts_that_come_and_go(argv[1]);
     refusals(argv[1]);
+#ifndef IS_SANITIZED
+    children(argv[1]);
+#endif
     return trial_end();
 }

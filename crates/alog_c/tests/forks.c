@@ -1,0 +1,78 @@
+/* What a child of a fork may do with a host of its parent, which is nothing, and what it keeps its parent from, which is nothing either:
+   forks FOLDER */
+#include "alog_host.h"
+#include "trial.h"
+
+#include <signal.h>
+#include <sys/wait.h>
+
+static const char config[] = "queue = 8\n[[sink]]\nname = \"file\"\nkind = \"memory\"\nfile = \"log.txt\"\npattern = \"%v\"\n"
+                             "[[logger]]\nname = \"net\"\nsinks = [\"file\"]\n";
+
+static alog_host host;
+static alog_client client;
+
+static void start(const char *folder)
+{
+    EXPECT(alog_start(&host, config, sizeof config - 1, folder, 1), ALOG_DONE);
+    EXPECT(alog_client_open(&host, &client), ALOG_DONE);
+}
+
+static void stop(uint64_t handled)
+{
+    alog_report report = {0, 0, 0, 0, 0, 0};
+    EXPECT(alog_client_close(&client), ALOG_DONE);
+    EXPECT(alog_stop(&host, &report), ALOG_DONE);
+    EXPECT(report.handled, handled);
+    EXPECT(host.failures, 0);
+}
+
+/* A child closes and stops what is its parent's, and is refused; the parent goes on. */
+static void refused(const char *folder)
+{
+    alog_report report;
+    int status = 0;
+    pid_t child;
+    start(folder);
+    EXPECT(alog_log_wait(&client, 0, ALOG_INFO, "before", 6), ALOG_DONE);
+    child = fork();
+    if (child == 0)
+        _exit(alog_client_close(&client) == ALOG_NO_HANDLE && alog_stop(&host, &report) == ALOG_NO_HANDLE ? 0 : 1);
+    EXPECT(waitpid(child, &status, 0), child);
+    EXPECT(status, 0);
+    EXPECT(alog_log_wait(&client, 0, ALOG_INFO, "behind", 6), ALOG_DONE);
+    stop(2);
+}
+
+/* A child lives on with the descriptor of the folder's lock, while its parent stops the host and starts it again. */
+static void outlived(const char *folder)
+{
+    pid_t child;
+    start(folder);
+    child = fork();
+    if (child == 0) {
+        pause();
+        _exit(0);
+    }
+    stop(0);
+    start(folder);
+    EXPECT(alog_log_wait(&client, 0, ALOG_INFO, "again", 5), ALOG_DONE);
+    stop(1);
+    EXPECT(kill(child, SIGKILL), 0);
+    EXPECT(waitpid(child, NULL, 0), child);
+}
+
+int main(int argc, char **argv)
+{
+    size_t length = 0;
+    char *bytes;
+    if (argc != 2)
+        return 2;
+    refused(argv[1]);
+    outlived(argv[1]);
+    bytes = bytes_of(path_of(argv[1], "log.txt"), &length);
+    EXPECT(length, 20);
+    EXPECT(memcmp(bytes, "before\nbehind\nagain\n", length < 20 ? length : 20), 0);
+    free(bytes);
+    return trial_end();
+}
