@@ -1,6 +1,7 @@
-// One program that logs by spdlog's calls, from one or more threads, through spdlog's own asynchronous logger or through alog's sink:
-//   c spdlog|alog FOLDER THREADS rate     how many messages go in a second, from the first log to the last line in the file
-//   c spdlog|alog FOLDER THREADS times    the 50th, 99th and 99.9th percentile of the nanoseconds that one log takes
+// One program that logs by spdlog's calls, from one or more threads, through spdlog's own asynchronous logger, through alog's sink, or, by `none`,
+// to a sink that drops what it gets:
+//   c spdlog|alog|none FOLDER THREADS rate     how many messages go in a second, from the first log to the last line in the file
+//   c spdlog|alog|none FOLDER THREADS times    the 50th, 99th and 99.9th percentile of the nanoseconds that one log takes
 #include "alog_spdlog.h"
 
 #include <algorithm>
@@ -14,6 +15,7 @@
 
 #include <spdlog/async.h>
 #include <spdlog/sinks/basic_file_sink.h>
+#include <spdlog/sinks/null_sink.h>
 #include <spdlog/spdlog.h>
 
 namespace {
@@ -56,6 +58,15 @@ Backend by_alog(const std::string &folder) {
     return {alog::make_logger(host, "server"), host};
 }
 
+// The front end alone, which is the same in front of both: the text, the time and the level of each message, which then goes nowhere.
+Backend by_none() { return {std::make_shared<spdlog::logger>("server", std::make_shared<spdlog::sinks::null_sink_st>()), nullptr}; }
+
+Backend backend(const std::string &by, const std::string &folder) {
+    if (by == "none")
+        return by_none();
+    return by == "alog" ? by_alog(folder) : by_spdlog(folder);
+}
+
 void log_all(spdlog::logger &logger, int thread) {
     for (int i = 0; i < each; i++)
         logger.info("request {} of client {} served by worker {} in {} microseconds", i, i % 100, thread, 861);
@@ -81,7 +92,7 @@ void print_times(const std::vector<std::vector<std::int64_t>> &times) {
 }
 
 int run(const std::string &by, const std::string &folder, std::size_t count, bool timed) {
-    Backend to = by == "alog" ? by_alog(folder) : by_spdlog(folder);
+    Backend to = backend(by, folder);
     std::vector<std::vector<std::int64_t>> times(count);
     for (auto &own : times)
         own.reserve(timed ? each : 0);
@@ -109,8 +120,9 @@ int run(const std::string &by, const std::string &folder, std::size_t count, boo
 
 int main(int argc, char **argv) try {
     const std::vector<std::string> words(argv + 1, argv + argc);
-    if (words.size() != 4 || (words[0] != "spdlog" && words[0] != "alog") || (words[3] != "rate" && words[3] != "times")) {
-        std::fputs("c: wanted are spdlog or alog, a folder, a number of threads, and rate or times\n", stderr);
+    const bool known = words.size() == 4 && (words[0] == "spdlog" || words[0] == "alog" || words[0] == "none");
+    if (!known || (words[3] != "rate" && words[3] != "times")) {
+        std::fputs("c: wanted are spdlog, alog or none, a folder, a number of threads, and rate or times\n", stderr);
         return 1;
     }
     return run(words[0], words[1], std::stoul(words[2]), words[3] == "times");
