@@ -2,6 +2,7 @@
 #include "alog_host.h"
 
 #include <fstream>
+#include <functional>
 #include <iostream>
 #include <iterator>
 #include <stdexcept>
@@ -44,7 +45,7 @@ void serve(alog_host &host, int thread) try {
     std::cerr << "server: thread " << thread << ": " << error.what() << '\n';
 }
 
-int main(int argc, char **argv) {
+int main(int argc, char **argv) try {
     static alog_host host;
     if (argc != 3) {
         std::cerr << "server: wanted are a configuration and a folder\n";
@@ -67,4 +68,7 @@ int main(int argc, char **argv) {
     std::cout << "asked " << report.asked << "\nposted " << report.posted << "\ndiscarded " << report.discarded << "\noverrun " << report.overrun
               << "\nhandled " << report.handled << "\nfaults " << report.faults << "\nfailures " << host.failures << '\n';
     return report.faults == 0 && host.failures == 0 ? 0 : 1;
+} catch (const std::runtime_error &error) {
+    std::cerr << "server: " << error.what() << '\n';
+    return 1;
 }

@@ -14,6 +14,7 @@ const REQUESTS: usize = 1000;
 const DONE: u32 = 0;
 const WOULD_BLOCK: u32 = 2;
 const IDLE: u32 = 7;
+const ENDED: u32 = 10;
 const INFO: u32 = 2;
 const AREA: usize = 131_072;
 const AREAS: usize = 16;
@@ -147,23 +148,25 @@ fn run(document: &[u8], folder: &Path) -> io::Result<Report> {
         return Err(io::Error::other(format!("alog answers {answer}: {}", String::from_utf8_lossy(&told[..said]))));
     }
     expect(unsafe { alog_c_worker(&mut pool, &mut worker) });
+    let mut producers = [Handle::EMPTY, Handle::EMPTY];
+    for it in &mut producers {
+        expect(unsafe { alog_c_producer(&mut pool, it) });
+    }
     let is_ending = AtomicBool::new(false);
     thread::scope(|all| {
         let writer = all.spawn(|| write(worker, &mut files, folder, &is_ending));
-        let servers: Vec<_> = (0..2)
-            .map(|number| {
-                let mut producer = Handle::EMPTY;
-                expect(unsafe { alog_c_producer(&mut pool, &mut producer) });
-                all.spawn(move || serve(producer, number))
-            })
-            .collect();
-        let are_well = servers.into_iter().all(|it| it.join().is_ok());
+        let servers = producers.into_iter().enumerate().map(|(number, it)| all.spawn(move || serve(it, number))).collect::<Vec<_>>();
+        let ends = servers.into_iter().map(|it| it.join()).collect::<Vec<_>>();
         is_ending.store(true, Ordering::SeqCst);
-        assert!(are_well);
+        assert!(ends.iter().all(Result::is_ok));
         writer.join().expect("the writer ends")
     })?;
     expect(unsafe { alog_c_shutdown(&mut pool, &mut report) });
-    drain(&mut files, &mut vec![0; AREA], folder)?;
+    let (mut area, mut length) = (vec![0; AREA], 0);
+    drain(&mut files, &mut area, folder)?;
+    if unsafe { alog_c_take(&mut files, area.as_mut_ptr(), area.len(), &mut length) } != ENDED {
+        return Err(io::Error::other("not all was taken that the pool told its files"));
+    }
     expect(unsafe { alog_c_close(&mut files) });
     Ok(report)
 }

@@ -31,7 +31,7 @@ int main(int argc, char **argv) try {
     const alog_report report = host->stop();
     std::cout << "asked " << report.asked << "\nposted " << report.posted << "\ndiscarded " << report.discarded << "\noverrun " << report.overrun
               << "\nhandled " << report.handled << "\nfaults " << report.faults << "\nfailures " << host->failures() << '\n';
-    return report.faults == 0 && host->failures() == 0 ? 0 : 1;
+    return report.faults == 0 && host->refused() == 0 && host->failures() == 0 ? 0 : 1;
 } catch (const spdlog::spdlog_ex &error) {
     std::cerr << "spdlog: " << error.what() << '\n';
     return 1;

@@ -30,7 +30,7 @@
    from then on, and the report counts each such turn. A call of alog_work takes at most one area of a sink for each message that it ends, and
    two more (alog_host.h says more). Before the end a worker is to work until it answers ALOG_IDLE, and what it wrote is to be taken: what is
    left behind that the end of the pool writes, with nobody to empty an area meanwhile. Behind the end alog_take answers ALOG_ENDED when all was
-   taken that the pool told its files: then nothing is missing but what the report counts.
+   taken that the pool told its files. What it could not tell them is among the faults of the report.
 
    Link with libalog_c.a, and behind it the kit's libos_c.a and liblibc_c.a. C99 or C++11 will do. */
 #ifndef ALOG_H
@@ -121,7 +121,7 @@ enum alog_answer {
     ALOG_BUSY_PART = 30
 };
 
-/* How much a message matters. A logger takes what is at its level or above, and one at ALOG_OFF takes nothing. */
+/* How much a message matters. A logger takes what is at its level or above: at ALOG_OFF only a message that says ALOG_OFF itself. */
 #ifdef __cplusplus
 enum alog_level : uint32_t {
 #else
@@ -165,8 +165,9 @@ typedef struct alog_files {
     void *at;
 } alog_files;
 
-/* What became of all messages that passed the levels of their loggers, modulo 2^64: asked is posted and discarded, and posted is handled and
-   overrun. A fault is a turn of a worker at a sink that had no area left, or was broken by that before: what it was to write is missing. */
+/* What became of all messages that passed the levels of their loggers, of all flushes, and of all posts of dumps, modulo 2^64: asked is posted
+   and discarded, and posted is handled and overrun. A fault is a turn at a sink, by a worker or by the end, that had no area left or a record
+   longer than one, or came behind such a turn: what it was to write is missing. */
 typedef struct alog_report {
     uint64_t asked;
     uint64_t posted;
@@ -350,7 +351,7 @@ static inline enum alog_answer alog_log_source(alog_producer *producer, uint32_t
 }
 
 /* Posts a flush of the sinks of a logger, which comes behind what was posted before. Where the queue is full it is discarded and counted,
-   also where the logger's policy is to block. */
+   also where the logger's policy is to block; a policy that overruns makes room for it, as for a message. */
 static inline enum alog_answer alog_flush(alog_producer *producer, uint32_t logger, uint64_t *ticket)
 {
     uint64_t own = 0;
@@ -359,7 +360,7 @@ static inline enum alog_answer alog_flush(alog_producer *producer, uint32_t logg
 
 /* Posts what the backtrace of a logger kept, oldest first, between two markers of this time, and empties it. How many posts that were is in
    `posts`, where that is not null: none where nothing was kept. Those for which the queue had no room were discarded and counted, also where
-   the logger's policy is to block. */
+   the logger's policy is to block; a policy that overruns takes out the oldest messages for them. */
 static inline enum alog_answer alog_dump(alog_producer *producer, uint32_t logger, int64_t time, size_t *posts)
 {
     size_t own = 0;

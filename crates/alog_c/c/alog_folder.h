@@ -26,13 +26,20 @@ static inline uint64_t alog_failures(const alog_host *host, int *first_errno)
     return failures;
 }
 
-/* Opens what has this path in a folder, also where a signal comes meanwhile; -1 with its errno where that is refused. */
+/* Opens what has this path in a folder, also where a signal comes meanwhile, and never as a standard stream that was closed: what is printed
+   there would lie in the file. -1 with its errno where that is refused. */
 static inline int alog_open_at(int folder, const char *path, int flags)
 {
     int descriptor;
     do
         descriptor = openat(folder, path, flags | O_CLOEXEC, 0644);
     while (descriptor < 0 && errno == EINTR);
+    if (descriptor >= 0 && descriptor <= STDERR_FILENO) {
+        const int other = fcntl(descriptor, F_DUPFD_CLOEXEC, STDERR_FILENO + 1), error = errno;
+        close(descriptor);
+        errno = error;
+        return other;
+    }
     return descriptor;
 }
 

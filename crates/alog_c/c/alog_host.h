@@ -16,20 +16,21 @@
    for gnu99 or later. A process that forks starts its host in the child.
 
    No call is made from a handler of a signal, no thread is cancelled within a call, and a child of a fork uses no host of its parent: it has
-   none of its threads. There alog_stop and alog_client_close do nothing, and answer ALOG_NO_HANDLE. The threads of workers hold all signals back but those of a fault of their own, as SIGSEGV.
+   none of its threads. There all calls on a host, and alog_client_close, do nothing, and answer ALOG_NO_HANDLE; the calls that log do not look.
+   The threads of workers hold all signals back but those of a fault of their own, as SIGSEGV.
 
    Files. The folder has to be there. It is held by a lock on its file `.alog.lock`, as the program `alog` holds it: two that rotate the same
    files would lose some. What a sink is to go on in is looked at once, at the start. A start is refused where a sink's file is there and cannot
    be opened to append, or would be the lock: so it sees a folder of its name, a link and a file without permission. Of a sink by days it sees
-   none, since their names come with the days. Files are made with the mode 0644, are opened to append, and have to be regular files; a link is
-   not followed.
+   none, since their names come with the days. Files are made with the mode 0644, less the umask, are opened to append, and have to be regular
+   files; a link is not followed.
 
    A call of the system that fails later is counted, its errno is kept where it is the first, and the others go on: alog_failures tells both.
    What could not be written is missing, so the last line in front of it may be cut, and the next one then stands behind it without a new line.
-   Where a file of a rotation cannot be renamed, those that would come behind it keep their names, so that it is not replaced, and the sink goes
-   on in the file that it has until a later rotation can be made. Those in front of it, which are older, were renamed by then, and are at each
-   try: so the oldest of them go, though no new one comes. A flush brings lines to the system, and, where the options say `sync`, to the disk,
-   with the names of the folder; then a file is also brought there before it is closed or renamed.
+   Where a file of a rotation cannot be renamed, say `log.2` to `log.3`, then `log.1` and `log` keep their names too, so that it is not
+   replaced, and lines go on into `log` until a later rotation can be made. Older files were renamed by then, and are at each try: so each try
+   may lose the oldest one, though no new one comes. A flush brings lines to the system, and, where the options say `sync`, to the disk, with
+   the names of the folder; then a file is also brought there before it is closed or renamed.
 
    Areas. Each sink has so many areas of ALOG_AREA bytes (128 KiB), which workers fill and which are empty again when they were taken. A sink
    that finds none empty is broken for good, so there have to be enough. A worker's call ends so many messages as `batch` says, and behind it
@@ -288,8 +289,9 @@ static inline enum alog_answer alog_start(alog_host *host, const char *document,
 }
 
 /* Ends a host whose clients are all closed, when all that was logged is written, and reports what became of it; whether it is in the files,
-   alog_failures says. Where a client is open, nothing is done, and neither where there is no memory to end it: ALOG_PARTS_OUT, and it is to be
-   called again. It is called once, by a thread that knows that nobody opens a client of this host meanwhile. */
+   alog_failures says. Where a client is open, nothing is done. Where there is no memory to end the pool, the workers have ended by then, and no
+   client can be opened. Both are ALOG_PARTS_OUT, and it is to be called again. It is called by one thread, which knows that nobody opens a
+   client of this host meanwhile. */
 static inline enum alog_answer alog_stop(alog_host *host, alog_report *report)
 {
     size_t clients;
@@ -309,7 +311,7 @@ static inline enum alog_answer alog_client_open(alog_host *host, alog_client *cl
     enum alog_answer answer;
     if (host == NULL || client == NULL)
         return ALOG_NULL;
-    if (!host->is_open)
+    if (!host->is_open || host->process != getpid())
         return ALOG_NO_HANDLE;
     pthread_mutex_lock(&host->lock);
     /* (one that did not end has no workers any more) */
@@ -328,10 +330,24 @@ static inline enum alog_answer alog_host_find(alog_host *host, const char *name,
     enum alog_answer answer;
     if (host == NULL)
         return ALOG_NULL;
-    if (!host->is_open)
+    if (!host->is_open || host->process != getpid())
         return ALOG_NO_HANDLE;
     pthread_mutex_lock(&host->lock);
     answer = alog_find_in_pool(&host->pool, name, logger);
+    pthread_mutex_unlock(&host->lock);
+    return answer;
+}
+
+/* Sets the level of a logger for all threads, from the next message on, without a client. */
+static inline enum alog_answer alog_host_set_level(alog_host *host, uint32_t logger, enum alog_level level)
+{
+    enum alog_answer answer;
+    if (host == NULL)
+        return ALOG_NULL;
+    if (!host->is_open || host->process != getpid())
+        return ALOG_NO_HANDLE;
+    pthread_mutex_lock(&host->lock);
+    answer = alog_set_level_in_pool(&host->pool, logger, level);
     pthread_mutex_unlock(&host->lock);
     return answer;
 }
@@ -413,7 +429,7 @@ static inline enum alog_answer alog_log_wait(alog_client *client, uint32_t logge
 }
 
 /* Posts what the backtrace of a logger kept, between two markers of the time of the call. It tries again where another thread is at the
-   backtrace, and does not wait for room: what the queue has no room for is discarded. */
+   backtrace, and does not wait for room: what the queue has no room for is discarded, unless the logger's policy is to overrun. */
 static inline enum alog_answer alog_dump_now(alog_client *client, uint32_t logger)
 {
     enum alog_answer answer;
@@ -430,7 +446,7 @@ static inline enum alog_answer alog_dump_now(alog_client *client, uint32_t logge
     return answer;
 }
 
-/* Posts a flush of a logger's sinks, and never waits: where the queue is full it is discarded. */
+/* Posts a flush of a logger's sinks, and never waits: where the queue is full it is discarded, unless the logger's policy is to overrun. */
 static inline enum alog_answer alog_flush_now(alog_client *client, uint32_t logger)
 {
     enum alog_answer answer;

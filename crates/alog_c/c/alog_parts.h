@@ -19,7 +19,7 @@
 #include <time.h>
 #include <unistd.h>
 
-#ifndef CLOCK_REALTIME
+#if !defined(CLOCK_REALTIME) || !defined(O_NOFOLLOW) || !defined(AT_FDCWD)
 #error "alog_host.h needs POSIX: define _POSIX_C_SOURCE as 200809L before the first include"
 #endif
 

@@ -10,9 +10,13 @@
 // is set by spdlog has no effect. A message goes on where the levels of both, of spdlog's logger and of alog's, let it: alog's is info where
 // the configuration says none. Each thread that logs has a client of its own, which goes to the next new thread when it ends.
 //
-// A message that alog refuses, as a text that is not UTF-8 or is too long, becomes a spdlog_ex, which spdlog hands to its error handler, and so
-// does what a thread logs when its thread-local objects are destroyed and its client is gone. A message whose source is too long goes without it.
-// What is discarded since the queue is full is told by the report alone.
+// A message that is refused, as a text that is not UTF-8 or is too long, becomes a spdlog_ex, which spdlog hands to its error handler: its default
+// handler prints at most one in a second. So does what a thread logs after its client is gone, while its thread-local objects are destroyed. How
+// many they were `refused` of the host says. A message whose source is too long, or no UTF-8, goes without it. What is discarded since the queue is
+// full is told by the report alone.
+//
+// Times are UTC unless the document says `offset` or `zone`, where spdlog's are local; `%t` is the number of the thread's client, from 0 on, and not
+// the system's. `spdlog::register_logger` makes a logger known to `spdlog::get`.
 //
 // A child of a fork has none of the host's threads, and may not log by it. It may end by exit: the host is left as it is there.
 //
@@ -73,12 +77,23 @@ class host : public std::enable_shared_from_this<host> {
     // How many calls on files failed since the start.
     std::uint64_t failures() const { return alog_failures(&host_, nullptr); }
 
+    // The same, with the errno of the first one, or 0.
+    std::uint64_t failures(int &first_errno) const { return alog_failures(&host_, &first_errno); }
+
+    // How many messages were refused, and became a spdlog_ex: they are missing, and no total of the report counts them.
+    std::uint64_t refused() const { return refused_; }
+
     // The number of a logger.
     std::uint32_t find(const std::string &name) {
         std::uint32_t logger = 0;
         // (a name ends by its first zero there)
         expect(name.find('\0') == std::string::npos ? alog_host_find(&host_, name.c_str(), &logger) : ALOG_NO_LOGGER, name);
         return logger;
+    }
+
+    // Sets the level that alog has for a logger, for all threads, whatever level spdlog's logger has.
+    void set_level(const std::string &name, spdlog::level::level_enum level) {
+        expect(alog_host_set_level(&host_, find(name), static_cast<alog_level>(level)), name);
     }
 
     // The client of this thread, which is opened at its first use.
@@ -92,6 +107,7 @@ class host : public std::enable_shared_from_this<host> {
     }
 
   private:
+    friend class spdlog_sink;
     friend std::shared_ptr<host> make_host(const std::string &document, const std::string &folder, const alog_options &options);
 
     host(const std::string &document, const std::string &folder, const alog_options &options) : number_(next_number()) {
@@ -136,13 +152,14 @@ class host : public std::enable_shared_from_this<host> {
     }
 
     alog_client &lend() {
+        expect(is_own() ? ALOG_DONE : ALOG_NO_HANDLE);
         const std::lock_guard<std::mutex> guard(lock_);
         std::vector<lease> &all = leases().all;
         all.erase(std::remove_if(all.begin(), all.end(), [](const lease &it) { return it.from.expired(); }), all.end());
         all.reserve(all.size() + 1);
         if (free_.empty()) {
             free_.reserve(clients_.size() + 1);
-            clients_.emplace_back(new alog_client{});
+            clients_.push_back(std::unique_ptr<alog_client>(new alog_client{}));
             free_.push_back(clients_.back().get());
         }
         alog_client *client = free_.back();
@@ -167,6 +184,7 @@ class host : public std::enable_shared_from_this<host> {
     }
 
     const std::uint64_t number_;
+    std::atomic<std::uint64_t> refused_{0};
     std::mutex lock_;
     // all clients, and those that no thread has, for all of which there is room
     std::vector<std::unique_ptr<alog_client>> clients_;
@@ -187,21 +205,33 @@ class spdlog_sink : public spdlog::sinks::sink {
         const alog_level level = static_cast<alog_level>(message.level);
         const alog_source *from = place.empty() ? nullptr : &source;
         alog_message it = {logger_, level, time.count(), message.payload.data(), message.payload.size(), from};
-        alog_answer answer = alog_post_wait(&host_->mine(), &it);
-        if (answer == ALOG_SOURCE_TOO_LONG) {
-            it.source = nullptr;
-            answer = alog_post_wait(&host_->mine(), &it);
+        try {
+            post(it);
+        } catch (...) {
+            host_->refused_++;
+            throw;
         }
-        expect(answer);
     }
 
-    // Posts a flush: what was logged before is in its files when a worker comes to it.
+    // Posts a flush: what was logged before is in its files when a worker comes to it. Where the queue is full the flush is discarded and
+    // counted, unless the policy overruns; the key `flush_on` of the document wants no place in the queue.
     void flush() override { expect(alog_flush_now(&host_->mine(), logger_)); }
 
     void set_pattern(const std::string &) override {}
     void set_formatter(std::unique_ptr<spdlog::formatter>) override {}
 
   private:
+    // Posts a message, without its source where that is what is refused.
+    void post(alog_message &it) {
+        alog_client &client = host_->mine();
+        alog_answer answer = alog_post_wait(&client, &it);
+        if (it.source != nullptr && (answer == ALOG_SOURCE_TOO_LONG || answer == ALOG_NOT_UTF8)) {
+            it.source = nullptr;
+            answer = alog_post_wait(&client, &it);
+        }
+        expect(answer);
+    }
+
     const std::shared_ptr<host> host_;
     const std::uint32_t logger_;
 };

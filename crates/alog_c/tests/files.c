@@ -220,6 +220,31 @@ static void strangers(const char *folder)
     EXPECT(is_there(longest) && is_there("\xff\xfe") && is_there("folder") && is_there("link"), 1);
 }
 
+/* Where standard streams are closed, as a daemon has them, no file of a host takes the place of one. */
+static void closed_streams(const char *folder)
+{
+    static const char config[] = "[[sink]]\nname = \"a\"\nkind = \"memory\"\nfile = \"log.txt\"\npattern = \"%v\"\n"
+                                 "[[logger]]\nname = \"l\"\nsinks = [\"a\"]\n";
+    int kept[2], taken = 0, number;
+    enter(folder, "streams");
+    fflush(stdout);
+    for (number = 0; number < 2; number++) {
+        kept[number] = fcntl(number, F_DUPFD, 10);
+        close(number);
+    }
+    start(config);
+    log_text("x", 0);
+    for (number = 0; number < 2; number++)
+        taken += fcntl(number, F_GETFD) >= 0;
+    stop(1);
+    for (number = 0; number < 2; number++) {
+        EXPECT(dup2(kept[number], number), number);
+        close(kept[number]);
+    }
+    EXPECT(taken, 0);
+    expect_file("log.txt", "x\n");
+}
+
 int main(int argc, char **argv)
 {
     if (argc != 2)
@@ -232,6 +257,7 @@ int main(int argc, char **argv)
     days(argv[1], "last_day", 1);
     many_files(argv[1], "many", 300);
     strangers(argv[1]);
+    closed_streams(argv[1]);
     is_synced = 1;
     rotations(argv[1], "synced_rotations");
     days(argv[1], "synced_days", 3);

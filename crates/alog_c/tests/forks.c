@@ -27,17 +27,27 @@ static void stop(uint64_t handled)
     EXPECT(host.failures, 0);
 }
 
-/* A child closes and stops what is its parent's, and is refused; the parent goes on. */
+/* Whether a child is refused whatever it asks of its parent's host and client. */
+static int is_refused(void)
+{
+    alog_client other = {NULL, {0, NULL}};
+    alog_report report;
+    uint32_t logger;
+    return alog_client_open(&host, &other) == ALOG_NO_HANDLE && alog_host_find(&host, "net", &logger) == ALOG_NO_HANDLE &&
+           alog_host_set_level(&host, 0, ALOG_OFF) == ALOG_NO_HANDLE && alog_client_close(&client) == ALOG_NO_HANDLE &&
+           alog_stop(&host, &report) == ALOG_NO_HANDLE;
+}
+
+/* A child asks its parent's host, closes and stops what is its parent's, and is refused; the parent goes on. */
 static void refused(const char *folder)
 {
-    alog_report report;
     int status = 0;
     pid_t child;
     start(folder);
     EXPECT(alog_log_wait(&client, 0, ALOG_INFO, "before", 6), ALOG_DONE);
     child = fork();
     if (child == 0)
-        _exit(alog_client_close(&client) == ALOG_NO_HANDLE && alog_stop(&host, &report) == ALOG_NO_HANDLE ? 0 : 1);
+        _exit(is_refused() ? 0 : 1);
     EXPECT(waitpid(child, &status, 0), child);
     EXPECT(status, 0);
     EXPECT(alog_log_wait(&client, 0, ALOG_INFO, "behind", 6), ALOG_DONE);

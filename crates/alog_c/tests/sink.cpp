@@ -78,6 +78,9 @@ void messages(const std::string &folder) {
     net->log(spdlog::source_loc{"src/a.cpp", 7, "f"}, spdlog::level::critical, "two");
     disk->warn("below the level of alog");
     disk->error("three");
+    host->set_level("disk", spdlog::level::warn);
+    disk->warn("four");
+    EXPECT(thrown([&host] { host->set_level("nobody", spdlog::level::warn); }).find("no such logger") != std::string::npos, 1);
     net->set_level(spdlog::level::err);
     net->info("below the level of spdlog");
     net->error(std::string("\xff"));
@@ -85,19 +88,24 @@ void messages(const std::string &folder) {
     net->flush();
     disk->flush();
     EXPECT(errors.size(), 2);
+    EXPECT(host->refused(), 2);
     EXPECT(errors.empty() ? 0 : errors[0].find("UTF-8") != std::string::npos, 1);
     EXPECT(alog::make_logger(host, "net")->level() == spdlog::level::info, 1);
     EXPECT(thrown([&host] { alog::make_logger(host, "nobody"); }).find("no such logger") != std::string::npos, 1);
     const alog_report report = host->stop();
-    EXPECT(report.handled, 3 + 2);
-    EXPECT_TEXT(content(folder).c_str(), "net I : one 1\nnet C a.cpp:7 two\ndisk E : three\n");
+    EXPECT(report.handled, 4 + 2);
+    EXPECT_TEXT(content(folder).c_str(), "net I : one 1\nnet C a.cpp:7 two\ndisk E : three\ndisk W : four\n");
     // behind the end each log is refused
     net->error("late");
     EXPECT(errors.size(), 3);
+    EXPECT(host->refused(), 3);
+    int first_errno = 1;
+    EXPECT(host->failures(first_errno), 0);
+    EXPECT(first_errno, 0);
     EXPECT(thrown([&host] { host->stop(); }).empty(), 0);
 }
 
-// A source without names, and one that is too long, without which the message goes.
+// A source without names, and one that is too long or no UTF-8, without which the message goes.
 void sources(const std::string &folder) {
     const auto host = alog::make_host(config, folder, 1);
     const auto net = alog::make_logger(host, "net");
@@ -108,9 +116,12 @@ void sources(const std::string &folder) {
     net->log(spdlog::source_loc{nullptr, 7, nullptr}, spdlog::level::info, "one");
     net->log(spdlog::source_loc{file.c_str(), 7, "f"}, spdlog::level::info, "two");
     net->log(spdlog::source_loc{"a.cpp", 7, function.c_str()}, spdlog::level::info, "three");
-    EXPECT(host->stop().handled, 3);
-    EXPECT(errors, 0);
-    EXPECT_TEXT(content(folder).c_str(), "net I :7 one\nnet I : two\nnet I : three\n");
+    net->log(spdlog::source_loc{"\xff.cpp", 7, "f"}, spdlog::level::info, "four");
+    net->log(spdlog::source_loc{"\xff.cpp", 7, "f"}, spdlog::level::info, std::string("\xff"));
+    EXPECT(host->stop().handled, 4);
+    EXPECT(errors, 1);
+    EXPECT(host->refused(), 1);
+    EXPECT_TEXT(content(folder).c_str(), "net I :7 one\nnet I : two\nnet I : three\nnet I : four\n");
 }
 
 // What logs when its thread ends, behind the client of the thread or before it.
@@ -132,6 +143,7 @@ void ends_of_threads(const std::string &folder) {
     }).join();
     EXPECT(errors.size(), 1);
     EXPECT(errors.empty() ? 0 : errors[0].find("this thread ends") != std::string::npos, 1);
+    EXPECT(host->refused(), 1);
     EXPECT(host->stop().handled, 3);
 }
 
