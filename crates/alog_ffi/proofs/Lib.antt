@@ -4,3 +4,4 @@ pub mod Crosses
 pub mod News
 pub mod Unopened
 pub mod Lefts
+pub mod SharedEnds

@@ -76,15 +76,15 @@ module _ {S : Type 0} where
   abbrev pub AnswersWork : ℕ → ℕ → OwnedWorkerView S → Answer → OwnedWorkerView S → Type 0
   AnswersWork most items old a new = (w : Work) × WorksBy most old w new × (items ≡ w.items) × (a ≡ answer_of_pause w.pause)
 
--- A producer of the pool was made and is held, or there were too many, or no memory, and then nothing changed.
+-- A producer of the pool was made and is held, or there were too many already, or no memory, and then nothing changed.
 abbrev pub AnswersProducer : Part → OwnedPoolView OutboxView → Answer → OwnedPoolView OutboxView → Type 0
-AnswersProducer made old answer.Done new = (p : OwnedProducerView OutboxView) × (made ≡ Producer p) × MakesBy old new p
+AnswersProducer made old answer.Done new = (old.host.made < old.most) × (p : OwnedProducerView OutboxView) × (made ≡ Producer p) × MakesBy old new p
 AnswersProducer made old answer.TooMany new = (made ≡ Nothing) × (new ≡ old) × (old.most ≤ old.host.made)
 AnswersProducer made old answer.NoMemory new = (made ≡ Nothing) × (new ≡ old)
 AnswersProducer made old a new = ⊥
 
 abbrev pub AnswersWorker : Part → OwnedPoolView OutboxView → Answer → OwnedPoolView OutboxView → Type 0
-AnswersWorker made old answer.Done new = (w : OwnedWorkerView OutboxView) × (made ≡ Worker w) × HiresBy old new w
+AnswersWorker made old answer.Done new = (old.host.hired < old.host.workers) × (w : OwnedWorkerView OutboxView) × (made ≡ Worker w) × HiresBy old new w
 AnswersWorker made old answer.TooMany new = (made ≡ Nothing) × (new ≡ old) × (old.host.workers ≤ old.host.hired)
 AnswersWorker made old answer.NoMemory new = (made ≡ Nothing) × (new ≡ old)
 AnswersWorker made old a new = ⊥

@@ -1,5 +1,5 @@
 -- Calls of who does the calls on files, on handles.
-use Rattle.std.specs.Prelude.{◌≡◌, ◌⊎◌, ◌<◌, ◌≤◌, ◌++◌, ℕ, List, [], ◌∷◌, length, take, drop, slice_get, slice_set, All, Some, Vec}
+use Rattle.std.specs.Prelude.{◌≡◌, ◌⊎◌, ◌<◌, ◌≤◌, ◌++◌, ℕ, List, [], ◌∷◌, length, take, drop, slice_get, slice_set, All, IsSome, Some, None, Vec}
 use Rattle.std.specs.Str.{IsUtf8}
 use Rattle.std.specs.String.{string_bytes}
 use Rattle.std.specs.declared.alloc.Global.{Global}
@@ -41,13 +41,17 @@ OnFiles (Files ds) untouched f a new = (es : Vec DrainView Global) × (new ≡ F
 OnFiles Nothing untouched f a new = (new ≡ Nothing) × (a ≡ answer.NoHandle) × untouched
 OnFiles old untouched f a new = (new ≡ old) × (a ≡ answer.WrongHandle) × untouched
 
--- Nothing was taken of these; of some it may be known now that their stores have ended.
+-- nothing new is known of its store's end, or that it has all now
+abbrev pub EndsSo : DrainView → DrainView → Type 0
+EndsSo d e = (e.told ≡ d.told) ⊎ ((d.told ≡ None) × HasAll e)
+
+-- Nothing was taken of these; of some it may be known now that their stores have ended, and that all of it was taken.
 abbrev pub AreLeft : List DrainView → List DrainView → Type 0
 AreLeft [] [] = Unit {0}
-AreLeft (d ∷ ds) (e ∷ es) = (e.got ≡ d.got) × (e.line ≡ d.line) × AreLeft ds es
+AreLeft (d ∷ ds) (e ∷ es) = (e.got ≡ d.got) × (e.line ≡ d.line) × EndsSo d e × AreLeft ds es
 AreLeft _ _ = ⊥
 
--- These bytes were taken, which come next of one sink; what comes next of all others stays.
+-- These bytes were taken, which come next of one sink, whose end was not; what comes next of all others stays.
 pub record TakesOne (old : List DrainView) (bytes : List ℕ) (new : List DrainView) : Type 0 where
   pub at : ℕ
   pub was : DrainView
@@ -58,6 +62,11 @@ pub record TakesOne (old : List DrainView) (bytes : List ℕ) (new : List DrainV
   pub new_is : new ≡ slice_set left at now
   pub line : now.line ≡ was.line
   pub got : now.got ≡ was.got ++ bytes
+  pub goes_on : (was.told ≡ None) × (now.told ≡ None)
+
+-- its store has ended, and the end was taken
+abbrev pub IsOver : DrainView → Type 0
+IsOver d = IsSome d.told
 
 -- no bytes were told, and the memory is as it was
 abbrev pub IsUntaken : List ℕ → List ℕ → ℕ → Type 0
@@ -68,11 +77,11 @@ abbrev pub AreTaken : List ℕ → List ℕ → ℕ → List DrainView → List 
 AreTaken to into count old new =
     TakesOne old (take count into) new × AreRecords (take count into) × (drop count into ≡ drop count to) × (0 < count) × (count ≤ AREA)
 
--- Bytes were taken; or there are none now; or the stores of all have ended, and what was taken are the records of all that they were told; or the memory has
--- no room for an area.
+-- Bytes were taken; or none were, and of some the end was not; or the stores of all have ended, and what was taken are the records of all that they were
+-- told; or the memory has no room for an area.
 abbrev pub AnswersTake : List ℕ → List ℕ → ℕ → List DrainView → Answer → List DrainView → Type 0
 AnswersTake to into count old a new = ((a ≡ answer.Done) × (AREA ≤ length to) × AreTaken to into count old new)
-    ⊎ ((a ≡ answer.Idle) × (AREA ≤ length to) × AreLeft old new × IsUntaken to into count)
+    ⊎ ((a ≡ answer.Idle) × (AREA ≤ length to) × AreLeft old new × (¬ All IsOver new) × IsUntaken to into count)
     ⊎ ((a ≡ answer.Ended) × (AREA ≤ length to) × AreLeft old new × All HasAll new × IsUntaken to into count)
     ⊎ ((a ≡ answer.TooShort) × (length to < AREA) × (new ≡ old) × IsUntaken to into count)
 

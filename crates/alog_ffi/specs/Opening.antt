@@ -1,10 +1,11 @@
 -- How a pool is opened of a document.
-use Rattle.std.specs.Prelude.{◌≡◌, ◌≢◌, ◌++◌, ℕ, true, List, [], ◌∷◌, drop, length, min, take, Option, None, Ok, Err, Vec}
+use Rattle.std.specs.Prelude.{◌≡◌, ◌≢◌, ◌++◌, ℕ, true, List, [], ◌∷◌, count_by, drop, length, min, take, Option, None, Ok, Err, Vec}
 use Rattle.std.specs.declared.alloc.Global.{Global}
 use Rattle.std.specs.declared.io.Error.{Error}
 use Rattle.std.specs.Str.{IsUtf8}
 use Rattle.alog_config.specs.Built.{IsFaultOf}
 use Rattle.alog_config.specs.Meaning.{Reads}
+use Rattle.alog_config.specs.Sinks.{is_leaf}
 use Rattle.alog_config.specs.declared.building.BuildError.TheVariants.{Store}
 use Rattle.alog_config.specs.declared.config.Config.{Config}
 use Rattle.alog_config.specs.declared.fault.ConfigFault.{ConfigFault}
@@ -29,10 +30,11 @@ AreNew found [] [] = Unit {0}
 AreNew found (s ∷ ss) (d ∷ ds) = Begins found s d × AreNew found ss ds
 AreNew found _ _ = ⊥
 
--- A pool was opened of this configuration, over such stores.
+-- A pool was opened of this configuration, over such stores, one for each sink that is no fan.
 pub record OpensOf (c : Config) (asked : Asked) (found : List FoundFile) (p : OwnedPoolView OutboxView) (drains : List DrainView) : Type 0 where
   pub stores : List OutboxView
   pub new : AreNew found stores drains
+  pub count : length stores ≡ count_by is_leaf c.sinks.items
   pub setup : Setup OutboxView
   pub set : IsSetupOf true files_of failures_of c stores 0 setup
   pub opens : OpensBy setup asked.producers p

@@ -50,7 +50,7 @@ module _ {S : Type 0} where
     pub within : (s : Spec) → spec_at old.hosted.shared.loggers heard.logger ≡ Some s
         → IsLoggedUnread s once ⊎ IsWithin old.producer.limit heard.text.now heard.source
 
-  -- It was filtered by the level that its logger had, before it was looked at, and nothing was done.
+  -- It was filtered by some level of its logger, before it was looked at, and nothing was done.
   pub record WasFiltered (old : OwnedProducerView S) (said : Said) (once : Once) (new : OwnedProducerView S) : Type 0 where
     pub own : Level
     pub is : IsFiltered old.hosted.shared.loggers said own
@@ -71,9 +71,10 @@ module _ {S : Type 0} where
   LogsSo old said (Ok once) new = WasFiltered old said once new ⊎ HasLogged old said once new
   LogsSo old said (Err a) new = (new ≡ old) × (IsUnheard old.hosted.shared.loggers said a ⊎ WasRefused old said a)
 
-  -- A flush was posted, by the same producer.
+  -- A flush was posted, by the same producer, which has the backtraces that it had.
   pub record HasFlushed (old : OwnedProducerView S) (number : ℕ) (outcome : Outcome (Unit {0})) (new : OwnedProducerView S) : Type 0 where
     pub same : IsSameProducer old new
+    pub kept : new.producer.backtrace_seats ≡ old.producer.backtrace_seats
     pub posts : (s : Spec) → spec_at old.hosted.shared.loggers number ≡ Some s
         → (p q : BlockPort) × IsPortOf old.producer p × IsPortOf new.producer q × PostsItemNow SwapDid s.policy (Flush number) p q outcome
 

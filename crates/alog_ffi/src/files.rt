@@ -1,6 +1,6 @@
 //! Calls of who does the calls on files: which files there are before, and what is to be done to them.
-ghost use Rattle.std.specs.Prelude.{◌≡◌, ◌≢◌, ◌<◌, ◌≤◌, length, All, IsTrue, MatchOption};
-ghost use Rattle.alog_ffi.specs.Files.{AnswersClose, AnswersFirst, AnswersFound, AnswersTake, AddsTo, AreLeft, AreTaken, IsUntaken, OnFiles};
+ghost use Rattle.std.specs.Prelude.{◌≡◌, ◌≢◌, ◌<◌, ◌≤◌, ◌↔◌, length, All, IsTrue, MatchOption};
+ghost use Rattle.alog_ffi.specs.Files.{AnswersClose, AnswersFirst, AnswersFound, AnswersTake, AddsTo, AreLeft, AreTaken, IsOver, IsUntaken, OnFiles};
 ghost use Rattle.alog_ffi.specs.Handles.{held};
 ghost use Rattle.alog_ffi.specs.declared.part.Part.TheVariants.{Nothing};
 ghost use Rattle.alog_outbox.specs.Views.{HasAll};
@@ -128,9 +128,10 @@ fn take_at(drains: &mut Vec<Drain>, number: usize, to: &mut [u8]) -> Option<usiz
     }
 }
 
-/// Whether the stores of all have ended.
+/// Whether the ends of all were taken.
 fn have_ended(drains: &[Drain]) -> bool
-    ensures { IsTrue result → All HasAll drains.now }
+    ensures all { IsTrue result → All HasAll drains.now }
+    ensures over { IsTrue result ↔ All IsOver drains.now }
 {
     for drain in drains {
         if !drain.has_ended() {

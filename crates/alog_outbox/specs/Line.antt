@@ -62,7 +62,7 @@ EndsBy P [] = Unit {0}
 EndsBy P (Area area ∷ items) = EndsBy P items
 EndsBy P (End ∷ items) = (items ≡ []) × P
 
--- all calls were sent, and nobody may push
+-- the records of whole calls were sent, and nobody may push
 abbrev pub IsClosed : List ℕ → List Log → Type 0
 IsClosed sent views = ((calls : List Call) × (sent ≡ encoded calls))
     × ((port : ℕ) (v : Log) → get_elem? views port ≡ some v → v.pushes ≢ true)
@@ -74,7 +74,7 @@ Relayed items views = (writer : ℕ) × (reader : ℕ) × (sent : List ℕ) × (
     × EndsBy (IsClosed sent views) items
     × ((port : ℕ) (v : Log) → get_elem? views port ≡ some v → Fits writer reader sent got port v)
 
--- an area was got, or the end, behind the records of all calls
+-- an area was got, or the end, behind the records of whole calls
 abbrev pub Gets : Log → Letter → Log → Type 0
 Gets v (Area area) w = (w ≡ getting area v) × IsSent area
 Gets v End w = (calls : List Call) × (w ≡ ending calls v) × (v.got ≡ encoded calls)

@@ -141,7 +141,8 @@ impl<S: Store> OwnedProducer<S> {
             × PostsItemNow SwapDid s.policy (Flush number) p q o) }
         ensures unknown { IsNone result ↔ (length self.old.hosted.shared.loggers ≤ number) }
         ensures none { IsNone result → self.new ≡ self.old }
-        ensures same { (self.new.hosted ≡ self.old.hosted) × IsSame self.old.producer self.new.producer }
+        ensures same { (self.new.hosted ≡ self.old.hosted) × IsSame self.old.producer self.new.producer
+            × (self.new.producer.backtrace_seats ≡ self.old.producer.backtrace_seats) }
     {
         let hosted: &Hosted<S> = &self.common.hosted;
         if number as usize >= hosted.loggers().len() {

@@ -1,5 +1,7 @@
-use Rattle.std.proofs.Common.{rules, refl, ap, subst, ◌∙◌, inl, inr, drop, All, List, ℕ, arith}
+use Rattle.std.proofs.Common.{rules, refl, sym, ap, subst, ◌∙◌, inl, inr, drop, All, List, ℕ, arith}
+use Rattle.std.specs.Prelude.{false, IsTrue}
 use Rattle.alog_outbox.specs.Views.{HasAll}
+use Rattle.alog_ffi.specs.Files.{IsOver}
 use Rattle.alog_ffi.proofs.Lefts.{left_on, left_same}
 use Rattle.alog_ffi.proofs.files.take_from.Goals as goal
 
@@ -27,6 +29,7 @@ returns-in-Some c =
           new_is = one.new_is;
           line = one.line;
           got = one.got;
+          goes_on = one.goes_on;
         },
         e.1,
         e.2 ∙ ap (λ (l : List ℕ). drop c.in-Some.count l) i.1,
@@ -37,4 +40,9 @@ returns-in-Some c =
 
 pub returns-then-have_ended : goal.returns-then-have_ended
 returns-then-have_ended c =
-    let i = c.loop-number.invariant in inr (inr (inl (refl, omega arith, i.0, subst (All HasAll) c.as_slice.ensures.value (c.if-have_ended.ensures (search rules)), (i.1, i.2))))
+    let i = c.loop-number.invariant in inr (inr (inl (refl, omega arith, i.0, subst (All HasAll) c.as_slice.ensures.value (c.if-have_ended.ensures.all (search rules)), (i.1, i.2))))
+
+pub returns-else-have_ended : goal.returns-else-have_ended
+returns-else-have_ended c =
+    let i = c.loop-number.invariant in
+    inr (inl (refl, omega arith, i.0, (λ over. let yes : IsTrue false = c.if-have_ended.ensures.over.1 (subst (All IsOver) (sym c.as_slice.ensures.value) over) in absurd (cc)), (i.1, i.2)))

@@ -1,4 +1,4 @@
-use Rattle.std.proofs.Common.{sym, subst, None, Result, IfErr}
+use Rattle.std.proofs.Common.{◌∙◌, sym, subst, None, Result, IfErr}
 use Rattle.std.specs.Arc.{arc_value}
 use Rattle.alog_config.specs.Built.{IsFaultOf}
 use Rattle.alog_config.specs.declared.building.BuildError.{BuildError}
@@ -26,3 +26,17 @@ returns-in-Err-Store-clause-refused c =
       | in-Ok-explain_unopened w ↦ subst IsRefused (sym w.result-is) (c.args.config.now, c.requires, none)
       | in-Err w ↦ subst IsRefused (sym w.result-is) tt
     ]
+
+pub returns-in-Ok-open-clause-opened : goal.returns-in-Ok-open-clause-opened
+returns-in-Ok-open-clause-opened c = record {
+  config = c.args.config.now;
+  reads = c.requires;
+  opens = record {
+    stores = c.in-Ok.stores.items;
+    new = c.in-Ok.ensures.new;
+    count = c.in-Ok.ensures.count ∙ c.leaves.ensures;
+    setup = c.in-Ok-setup_of.setup;
+    set = c.in-Ok-setup_of.ensures.given;
+    opens = c.in-Ok-open.ensures.opened;
+  };
+}
