@@ -136,12 +136,14 @@ def is_by_names(path, function, printed, unproved):
 
 
 def is_at(path, function):
-    """Whether a path is that of a function: a method's names its type, and the trait behind it, and not the file."""
+    """Whether a path is that of a function: a method's names its type, and the trait behind it, but for that of a `Drop`, and not the file."""
     module, (type_name, trait), name = function
     if path[-1] != name:
         return False
     if not type_name:
         return "::".join(path[:-1]) == module
+    if trait == "Drop":
+        return path[-2] == type_name
     return len(path) > 2 and path[-2].startswith(type_name) and trait in path[-2]
 
 
