@@ -305,15 +305,23 @@ static inline enum alog_answer alog_stop(alog_host *host, alog_report *report)
     return clients > 0 ? ALOG_PARTS_OUT : alog_host_end(host, report);
 }
 
-/* Opens a client of a host, by whichever thread. A host has as many in its life as its options say. */
-static inline enum alog_answer alog_client_open(alog_host *host, alog_client *client)
+/* Takes the lock of a host that is open and this process's own; else it answers why not, and the lock is not taken. */
+static inline enum alog_answer alog_host_enter(alog_host *host)
 {
-    enum alog_answer answer;
-    if (host == NULL || client == NULL)
+    if (host == NULL)
         return ALOG_NULL;
     if (!host->is_open || host->process != getpid())
         return ALOG_NO_HANDLE;
     pthread_mutex_lock(&host->lock);
+    return ALOG_DONE;
+}
+
+/* Opens a client of a host, by whichever thread. A host has as many in its life as its options say. */
+static inline enum alog_answer alog_client_open(alog_host *host, alog_client *client)
+{
+    enum alog_answer answer = client == NULL ? ALOG_NULL : alog_host_enter(host);
+    if (answer != ALOG_DONE)
+        return answer;
     /* (one that did not end has no workers any more) */
     answer = __atomic_load_n(&host->is_ending, __ATOMIC_SEQ_CST) ? ALOG_NO_HANDLE : alog_make_producer(&host->pool, &client->producer);
     if (answer == ALOG_DONE) {
@@ -327,12 +335,9 @@ static inline enum alog_answer alog_client_open(alog_host *host, alog_client *cl
 /* Finds the number of a logger by its name, without a client. */
 static inline enum alog_answer alog_host_find(alog_host *host, const char *name, uint32_t *logger)
 {
-    enum alog_answer answer;
-    if (host == NULL)
-        return ALOG_NULL;
-    if (!host->is_open || host->process != getpid())
-        return ALOG_NO_HANDLE;
-    pthread_mutex_lock(&host->lock);
+    enum alog_answer answer = alog_host_enter(host);
+    if (answer != ALOG_DONE)
+        return answer;
     answer = alog_find_in_pool(&host->pool, name, logger);
     pthread_mutex_unlock(&host->lock);
     return answer;
@@ -341,12 +346,9 @@ static inline enum alog_answer alog_host_find(alog_host *host, const char *name,
 /* Sets the level of a logger for all threads, from the next message on, without a client. */
 static inline enum alog_answer alog_host_set_level(alog_host *host, uint32_t logger, enum alog_level level)
 {
-    enum alog_answer answer;
-    if (host == NULL)
-        return ALOG_NULL;
-    if (!host->is_open || host->process != getpid())
-        return ALOG_NO_HANDLE;
-    pthread_mutex_lock(&host->lock);
+    enum alog_answer answer = alog_host_enter(host);
+    if (answer != ALOG_DONE)
+        return answer;
     answer = alog_set_level_in_pool(&host->pool, logger, level);
     pthread_mutex_unlock(&host->lock);
     return answer;
