@@ -15,7 +15,7 @@ use std::marker::Model;
 use std::sync::Arc;
 use thiserror::Error;
 
-/// Why nothing was taken. Nothing changed.
+/// Why nothing was taken. The memory is as it was; that all was taken the drain knows from then on.
 #[derive(Clone, Copy, Debug, PartialEq, Eq, Drop, Error)]
 pub enum TakeError {
     /// There is no room for a whole area.

@@ -25,7 +25,7 @@ pub(crate) struct Log {
 }
 
 /// The rule: what was pushed is what was popped and then what lies there; in each area that lies there are whole records, and not none; and the end is the
-/// last, behind the records of all calls.
+/// last, behind the records of whole calls, and nobody may push behind it.
 pub(crate) struct InOrder;
 
 impl Protocol<Letter, Log> for InOrder {
