@@ -47,6 +47,8 @@
 #define ALOG_CAST(type, value) ((type)(value))
 #endif
 
+#include "alog_records.h"
+
 #ifdef __cplusplus
 extern "C" {
 /* what a number is that the library answers, so that the compiler takes each of them for an answer */
@@ -115,7 +117,8 @@ enum alog_answer {
     /* The folder takes no files, or another program holds it, or a sink cannot go on in its file or write to it: the words that were told say
        why, where they are known. It is an answer of a host: alog_open has it for a store that fails, and its own do not. */
     ALOG_NO_STORE = 28,
-    /* The memory that was handed to alog_take has fewer than ALOG_AREA bytes. Or a host is to have too few areas. */
+    /* The memory that was handed to alog_take has fewer than ALOG_AREA bytes, or that of alog_file_names no room for all. Or a host is to have
+       too few areas. */
     ALOG_TOO_SHORT = 29,
     /* Another thread gives a part back at this moment, and the handle still has its own: try again. */
     ALOG_BUSY_PART = 30
@@ -184,42 +187,13 @@ typedef struct alog_source {
     const char *function;
 } alog_source;
 
-/* What is to be done to a file. */
-#ifdef __cplusplus
-enum alog_deed : uint32_t {
-#else
-enum alog_deed {
-#endif
-    /* The rest of the record goes behind what the file has, which is made where it is absent. */
-    ALOG_APPEND = 1,
-    /* The file gets the rest of the record for its name, and replaces what has that name. Nothing where there is no such file. */
-    ALOG_RENAME = 2,
-    /* The file goes. Nothing where there is no such file. */
-    ALOG_REMOVE = 3,
-    /* What was appended is to be where it is kept. Nothing where there is no such file. */
-    ALOG_FLUSH = 4
-};
-
-#ifndef __cplusplus
-typedef enum alog_deed alog_deed;
-#endif
-
-/* One thing that is to be done. Neither name nor rest end by a zero. */
-typedef struct alog_record {
-    enum alog_deed deed;
-    const char *name;
-    size_t name_length;
-    const char *rest;
-    size_t rest_length;
-} alog_record;
-
-/* The most bytes that the text of a message may have, whatever the configuration; the bytes of an area; the bytes in front of a record; and
-   the most bytes of a file's name in a record: those of a pool have at most 75, since a configuration gives at most 64, and a sink puts up to 5
-   of a number or 11 of a date to them. */
-enum { ALOG_TEXT_MAX = 8192, ALOG_AREA = 131072, ALOG_RECORD_HEADER = 16, ALOG_NAME_MAX = 255 };
+/* The most bytes that the text of a message may have, whatever the configuration; the bytes of an area; and the most bytes of the names of all files
+   that a configuration's sinks, at most 256, have from its start. */
+enum { ALOG_TEXT_MAX = 8192, ALOG_AREA = 131072, ALOG_NAMES_MAX = 16640 };
 
 /* What the library exports. A slice is a pointer, which may not be null, and a length. Use the functions below, which test that. */
 uint32_t alog_c_found(alog_files *files, const char *name, size_t name_length, uint64_t size);
+uint32_t alog_c_file_names(const char *document, size_t document_length, char *to, size_t room, size_t *length);
 uint32_t alog_c_open(alog_pool *pool, alog_files *files, const char *document, size_t document_length, size_t producers, size_t areas,
                      char *told, size_t told_room, size_t *told_length);
 uint32_t alog_c_take(alog_files *files, char *to, size_t room, size_t *length);
@@ -245,17 +219,23 @@ static inline enum alog_answer alog_answer_of(uint32_t number)
     return ALOG_CAST(enum alog_answer, number);
 }
 
-/* The deed of this number. */
-static inline enum alog_deed alog_deed_of(uint32_t number)
-{
-    return ALOG_CAST(enum alog_deed, number);
-}
-
 /* Says, before a pool is opened, that a file of this name is in the folder and has so many bytes; for any number of files. What is said first of a
    name counts. `files` holds nothing, or what was said before. */
 static inline enum alog_answer alog_found(alog_files *files, const char *name, uint64_t size)
 {
     return files == NULL || name == NULL ? ALOG_NULL : alog_answer_of(alog_c_found(files, name, strlen(name), size));
+}
+
+/* Tells which files the sinks of a configuration have from its start, in the order of the sinks, without a pool: the name of each with a zero behind
+   it, `*length` bytes in all. A sink by days has none before its first line, and a fan none of its own. ALOG_NAMES_MAX bytes are room for those of any
+   configuration; where there is none for all, nothing is told. Why a document is no configuration alog_open says in words. */
+static inline enum alog_answer alog_file_names(const char *document, size_t document_length, char *to, size_t room, size_t *length)
+{
+    char none = 0;
+    if (length == NULL || (document == NULL && document_length > 0) || (to == NULL && room > 0))
+        return ALOG_NULL;
+    return alog_answer_of(
+        alog_c_file_names(document == NULL ? "" : document, document_length, to == NULL ? &none : to, room, length));
 }
 
 /* Opens a pool of this configuration, a document in TOML of so many bytes, over the files that were found, which `files` says, or over none
@@ -408,54 +388,6 @@ static inline enum alog_answer alog_close(alog_files *files)
     return files == NULL ? ALOG_NULL : alog_answer_of(alog_c_close(files));
 }
 
-/* The number at these four bytes. */
-static inline uint32_t alog_number_at(const char *bytes)
-{
-    unsigned char own[4];
-    memcpy(own, bytes, sizeof own);
-    return own[0] + own[1] * UINT32_C(0x100) + own[2] * UINT32_C(0x10000) + own[3] * UINT32_C(0x1000000);
-}
-
-/* Whether these bytes are the name of a file of a folder. */
-static inline int alog_is_name(const char *name, size_t length)
-{
-    if (length < 1 || length > ALOG_NAME_MAX || memchr(name, '/', length) != NULL || memchr(name, 0, length) != NULL)
-        return 0;
-    return !(name[0] == '.' && (length == 1 || (length == 2 && name[1] == '.')));
-}
-
-/* Reads the record at `*at` of what alog_take brought, and moves `*at` behind it: 1 where there was one, 0 behind the last, and -1, with `*at`
-   as it was, where these bytes are no record. */
-static inline int alog_next_record(const char *bytes, size_t length, size_t *at, alog_record *out)
-{
-    const char *header;
-    size_t left;
-    uint32_t deed;
-    if (bytes == NULL || at == NULL || out == NULL || *at > length)
-        return -1;
-    if (*at == length)
-        return 0;
-    left = length - *at;
-    if (left < ALOG_RECORD_HEADER)
-        return -1;
-    header = bytes + *at;
-    left -= ALOG_RECORD_HEADER;
-    deed = alog_number_at(header);
-    out->name = header + ALOG_RECORD_HEADER;
-    out->name_length = alog_number_at(header + 4);
-    out->rest_length = alog_number_at(header + 8);
-    if (deed < ALOG_APPEND || deed > ALOG_FLUSH || alog_number_at(header + 12) != 0)
-        return -1;
-    if (out->name_length > left || out->rest_length > left - out->name_length || !alog_is_name(out->name, out->name_length))
-        return -1;
-    out->rest = out->name + out->name_length;
-    if (deed == ALOG_RENAME ? !alog_is_name(out->rest, out->rest_length) : deed != ALOG_APPEND && out->rest_length > 0)
-        return -1;
-    out->deed = alog_deed_of(deed);
-    *at += ALOG_RECORD_HEADER + out->name_length + out->rest_length;
-    return 1;
-}
-
 /* Says in a sentence what an answer means. */
 static inline const char *alog_says(enum alog_answer answer)
 {
@@ -486,7 +418,7 @@ static inline const char *alog_says(enum alog_answer answer)
     case ALOG_PARTS_OUT: return "Not all producers and workers were given back.";
     case ALOG_BAD_CONFIG: return "The document is no configuration.";
     case ALOG_NO_STORE: return "The folder takes no files, or another program holds it, or a sink cannot write to its file.";
-    case ALOG_TOO_SHORT: return "The memory for what is to be done to the files is too short.";
+    case ALOG_TOO_SHORT: return "The memory that was handed over is too short.";
     case ALOG_BUSY_PART: return "Another thread gives a part back: try again.";
     }
     return "There is no such answer.";

@@ -367,11 +367,9 @@ static inline enum alog_answer alog_folder_tell(alog_host *host, const char *fol
 }
 
 /* Looks at the file of a sink: it may not be the lock, and where it is there it can be opened to append. */
-static inline enum alog_answer alog_sink_look(alog_host *host, const alog_record *record, const char *folder)
+static inline enum alog_answer alog_sink_look(alog_host *host, const char *name, const char *folder)
 {
-    char name[ALOG_NAME_MAX + 1];
-    const int descriptor = alog_file_open(host, record->name, record->name_length, 0), error = errno;
-    alog_ended(name, record->name, record->name_length);
+    const int descriptor = alog_file_open(host, name, strlen(name), 0), error = errno;
     if (strcmp(name, ALOG_LOCK) == 0)
         return alog_file_refused(host, name, folder, " is its lock, which no sink may have", 0);
     if (descriptor >= 0) {
@@ -383,21 +381,14 @@ static inline enum alog_answer alog_sink_look(alog_host *host, const alog_record
     return error == ENOENT ? ALOG_DONE : alog_file_refused(host, name, folder, " cannot be written: ", error);
 }
 
-/* Looks at the files of the sinks, which the library alone can tell: those of a pool of the same configuration that is opened and ended at once,
-   since the end of a pool flushes each sink. */
+/* Looks at the files of the sinks. What is wrong with a document that is no configuration alog_open says. */
 static inline enum alog_answer alog_sinks_look(alog_host *host, const char *document, size_t length, const char *folder)
 {
-    alog_pool pool = {0, NULL};
-    alog_report report;
-    alog_record record;
     size_t count = 0, at;
-    enum alog_answer answer = alog_open(&pool, &host->files, document, length, 0, 1, host->told, sizeof host->told);
-    if (answer == ALOG_DONE)
-        answer = alog_shutdown(&pool, &report);
-    while (answer == ALOG_DONE && alog_take(&host->files, host->area, ALOG_AREA, &count) == ALOG_DONE)
-        for (at = 0; answer == ALOG_DONE && alog_next_record(host->area, count, &at, &record) > 0;)
-            answer = alog_sink_look(host, &record, folder);
-    return answer == ALOG_DONE ? alog_close(&host->files) : answer;
+    enum alog_answer answer = alog_file_names(document, length, host->area, ALOG_AREA, &count);
+    for (at = 0; answer == ALOG_DONE && at < count; at += strlen(host->area + at) + 1)
+        answer = alog_sink_look(host, host->area + at, folder);
+    return answer == ALOG_BAD_CONFIG ? ALOG_DONE : answer;
 }
 
 /* Opens the folder, holds it, and tells the library what is in it. */

@@ -214,8 +214,6 @@ static inline enum alog_answer alog_host_open(alog_host *host, const char *docum
     if (answer == ALOG_DONE)
         answer = alog_sinks_look(host, document, length, folder);
     if (answer == ALOG_DONE)
-        answer = alog_folder_tell(host, folder);
-    if (answer == ALOG_DONE)
         answer = alog_open(&host->pool, &host->files, document, length, producers, areas, host->told, sizeof host->told);
     return answer;
 }

@@ -10,6 +10,7 @@ ghost use Rattle.alog_ffi.specs.Answers.{number_of};
 ghost use Rattle.alog_ffi.specs.Calls.{AnswersDump, AnswersEnd, AnswersFind, AnswersFlush, AnswersGive, AnswersLog, AnswersSetLevel, AnswersWork, MakesProducer, MakesWorker, OnProducer, OnWorker};
 ghost use Rattle.alog_ffi.specs.Files.{AnswersClose, AnswersFound, AnswersTake, IsUntaken, OnFiles};
 ghost use Rattle.alog_ffi.specs.Handles.{held};
+ghost use Rattle.alog_ffi.specs.Names.{AnswersNames};
 ghost use Rattle.alog_ffi.specs.Opening.{AnswersOpen, TellsWhy};
 ghost use Rattle.alog_c.specs.Says.{Says};
 ghost use Rattle.alog_ffi.specs.declared.answer.Answer.{Answer};
@@ -24,6 +25,19 @@ pub extern "C" fn alog_c_found(alloc: Global, files: &mut AlogHandle, name: &[u8
     ensures { (a : Answer) × (result ≡ number_of a) × AnswersFound (held files.old) name.now size a (held files.new) }
 {
     alog_ffi::found(alloc, files, name, size).number()
+}
+
+/// Tells the files that the sinks of a configuration have from its start: the name of each, and a zero byte behind it.
+#[unsafe(no_mangle)]
+pub extern "C" fn alog_c_file_names(
+    alloc: Global,
+    document: &[u8],
+    to: &mut [u8],
+    length: &mut usize,
+) -> u32
+    ensures { (a : Answer) × (result ≡ number_of a) × AnswersNames document.now to.old to.new length.new a }
+{
+    alog_ffi::file_names(alloc, document, to, length).number()
 }
 
 /// Opens a pool of this configuration, which may make so many producers. Each sink has so many areas of 131,072 bytes for what it hands out. Where the

@@ -61,6 +61,18 @@ static int goes(struct round *round, alog_answer answer)
     return 1;
 }
 
+/* Asks which files the sinks have. */
+static void name_files(struct round *round)
+{
+    char names[200];
+    size_t length = 99;
+    if (!goes(round, alog_file_names(config, sizeof config - 1, names, sizeof names, &length))) {
+        EXPECT(length, 0);
+        EXPECT(alog_file_names(config, sizeof config - 1, names, sizeof names, &length), ALOG_DONE);
+    }
+    EXPECT_TEXT(names, "a.txt");
+}
+
 /* Tells of two files, of which one is there for a sink. */
 static void find_files(struct round *round)
 {
@@ -84,6 +96,7 @@ static void open_pool(struct round *round)
 
 static void open_all(struct round *round)
 {
+    name_files(round);
     find_files(round);
     open_pool(round);
     if (!goes(round, alog_make_producer(&round->pool, &round->producer))) {

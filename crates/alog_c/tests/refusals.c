@@ -57,6 +57,9 @@ static void nulls(void)
     const alog_source no_file = {NULL, 1, "f"}, no_function = {"f", 1, NULL};
     EXPECT(alog_found(NULL, "log.txt", 1), ALOG_NULL);
     EXPECT(alog_found(&files, NULL, 1), ALOG_NULL);
+    EXPECT(alog_file_names(NULL, 1, told, sizeof told, &length), ALOG_NULL);
+    EXPECT(alog_file_names(config, sizeof config - 1, NULL, 1, &length), ALOG_NULL);
+    EXPECT(alog_file_names(config, sizeof config - 1, told, sizeof told, NULL), ALOG_NULL);
     EXPECT(open_at(NULL, &files), ALOG_NULL);
     EXPECT(open_at(&pool, NULL), ALOG_NULL);
     EXPECT(alog_open(&pool, &files, NULL, 1, 1, 1, told, sizeof told), ALOG_NULL);
@@ -134,6 +137,37 @@ static void founds(void)
     EXPECT(producer.kind, 0);
     EXPECT(alog_close(&files), ALOG_DONE);
     EXPECT(files.kind, 0);
+}
+
+/* The files that a document's sinks have, of which none is told where there is no room for all; a room of ALOG_NAMES_MAX bytes is one for most. */
+static void names(void)
+{
+    enum { SINKS = 256 };
+    static char many[SINKS * 160 + 100], room[ALOG_NAMES_MAX];
+    static const char days[] = "[[sink]]\nname = \"d\"\nkind = \"daily\"\nfile = \"d.txt\"\n[[logger]]\nname = \"net\"\nsinks = [\"d\"]\n";
+    size_t used = 0;
+    EXPECT(alog_file_names(config, sizeof config - 1, told, sizeof told, &length), ALOG_DONE);
+    EXPECT(length, 8);
+    EXPECT_TEXT(told, "log.txt");
+    memset(told, 'x', sizeof told);
+    EXPECT(alog_file_names(config, sizeof config - 1, told, 7, &length), ALOG_TOO_SHORT);
+    EXPECT(length, 0);
+    EXPECT(alog_file_names(config, sizeof config - 1, NULL, 0, &length), ALOG_TOO_SHORT);
+    EXPECT(told[0], 'x');
+    EXPECT(alog_file_names(config, sizeof config - 1, told, 8, &length), ALOG_DONE);
+    EXPECT(told[8], 'x');
+    EXPECT(alog_file_names(days, sizeof days - 1, NULL, 0, &length), ALOG_DONE);
+    EXPECT(length, 0);
+    EXPECT(alog_file_names("queue = 3", 9, told, sizeof told, &length), ALOG_BAD_CONFIG);
+    EXPECT(alog_file_names(NULL, 0, told, sizeof told, &length), ALOG_BAD_CONFIG);
+    for (int sink = 0; sink < SINKS; sink++)
+        used += (size_t)snprintf(many + used, sizeof many - used, "[[sink]]\nname = \"%d\"\nkind = \"memory\"\nfile = \"%064d\"\n", sink, sink);
+    snprintf(many + used, sizeof many - used, "[[logger]]\nname = \"net\"\nsinks = [\"0\"]\n");
+    EXPECT(alog_file_names(many, strlen(many), room, sizeof room - 1, &length), ALOG_TOO_SHORT);
+    EXPECT(alog_file_names(many, strlen(many), room, sizeof room, &length), ALOG_DONE);
+    EXPECT(length, ALOG_NAMES_MAX);
+    EXPECT(room[ALOG_NAMES_MAX - 1], 0);
+    EXPECT_TEXT(room + ALOG_NAMES_MAX - 4, "255");
 }
 
 /* A document that is no configuration, with the words of its fault, whole and cut. The files that were found stay. */
@@ -376,6 +410,7 @@ int main(int argc, char **argv)
     nulls();
     empty_handles();
     founds();
+    names();
     openings();
     EXPECT(open_at(&pool, &files), ALOG_DONE);
     EXPECT(alog_make_producer(&pool, &producer), ALOG_DONE);

@@ -10,3 +10,4 @@ pub mod Opening
 pub mod Reports
 pub mod Files
 pub mod Calls
+pub mod Names

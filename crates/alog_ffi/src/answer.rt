@@ -58,7 +58,7 @@ pub enum Answer {
     BadConfig = 27,
     /// Refused: the size of a sink's file could not be told.
     NoStore = 28,
-    /// Refused: the memory has no room for a whole area.
+    /// Refused: the memory has no room for a whole area, or for all names.
     TooShort = 29,
     /// Refused: another thread gives something back at this moment.
     BusyPart = 30,

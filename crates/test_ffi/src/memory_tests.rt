@@ -6,13 +6,16 @@ use crate::trial::{AREA, Deed, FILES, Opening, POOL, SECOND, TALKER, UNTOLD, WRI
 use alog_ffi::Answer;
 use std::process::Abort;
 
-/// A fan of two files, and a logger that keeps two messages.
-const FAN: Opening<'static> = Opening {
-    document: b"queue = 8\nworkers = 2\ntext = 500\n\
+/// A fan of two files, one of them by days, and a logger that keeps two messages.
+const TWO_FILES: &[u8] = b"queue = 8\nworkers = 2\ntext = 500\n\
 [[sink]]\nname = \"one\"\nkind = \"rotating\"\nfile = \"a.log\"\nmax_size = 4_000\nmax_files = 2\npattern = \"%v %s\"\n\
 [[sink]]\nname = \"two\"\nkind = \"daily\"\nfile = \"b.log\"\npattern = \"%v\"\n\
 [[sink]]\nname = \"both\"\nkind = \"fan\"\nof = [\"one\", \"two\"]\n\
-[[logger]]\nname = \"app\"\nsinks = [\"both\"]\nbacktrace = 2\n",
+[[logger]]\nname = \"app\"\nsinks = [\"both\"]\nbacktrace = 2\n";
+
+/// A pool of them.
+const FAN: Opening<'static> = Opening {
+    document: TWO_FILES,
     producers: 2,
     areas: 8,
     room: 100,
@@ -30,6 +33,7 @@ const WRONG: Opening<'static> = Opening {
 const LONG: &[u8] = b"a text of more than sixty-four bytes, which do not lie in a message itself";
 
 static OPEN: &[Row<'static>] = &[
+    (Deed::Names(TWO_FILES, 60, b"a.log\x00"), Answer::Done),
     (Deed::Founds(FILES, b"a.log", 50), Answer::Done),
     (Deed::Founds(FILES, b"other", 5_000), Answer::Done),
     (Deed::Founds(FILES, b"more", 0), Answer::Done),

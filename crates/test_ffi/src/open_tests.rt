@@ -1,4 +1,4 @@
-//! How a pool is opened, or why not, what it makes, and when it ends.
+//! Which files the sinks of a document have, how a pool is opened, or why not, what it makes, and when it ends.
 use crate::rows::{NOTHING, PLAIN, Row, START, trial_of, wrong_between, wrong_in, wrong_of};
 use crate::trial::{
     AREA, Deed, FILES, Opening, POOL, SECOND, TALKER, THIRD, Trial, UNTOLD, WRITER,
@@ -6,6 +6,40 @@ use crate::trial::{
 use alog_ffi::Answer;
 use std::alloc::Global;
 use std::process::Abort;
+
+/// Sinks of each kind, and a fan.
+const KINDS: &[u8] = b"[[sink]]\nname = \"one\"\nkind = \"memory\"\nfile = \"a.log\"\n\
+[[sink]]\nname = \"two\"\nkind = \"daily\"\nfile = \"b.log\"\n\
+[[sink]]\nname = \"three\"\nkind = \"rotating\"\nfile = \"c.log\"\nmax_size = 9\nmax_files = 2\n\
+[[sink]]\nname = \"all\"\nkind = \"fan\"\nof = [\"one\", \"two\"]\n\
+[[sink]]\nname = \"four\"\nkind = \"memory\"\n\
+[[logger]]\nname = \"app\"\nsinks = [\"all\", \"three\", \"four\"]\n";
+
+/// One sink, by days.
+const DAYS: &[u8] = b"[[sink]]\nname = \"two\"\nkind = \"daily\"\nfile = \"b.log\"\n\
+[[logger]]\nname = \"app\"\nsinks = [\"two\"]\n";
+
+/// The files of those that have one from the start.
+const NAMES: &[u8] = b"a.log\x00c.log\x00four\x00";
+
+static NAMED: &[Row<'static>] = &[
+    (Deed::Names(KINDS, 60, NAMES), Answer::Done),
+    (Deed::Names(KINDS, 17, NAMES), Answer::Done),
+    (Deed::Names(KINDS, 16, b""), Answer::TooShort),
+    (Deed::Names(KINDS, 0, b""), Answer::TooShort),
+    (Deed::Names(DAYS, 60, b""), Answer::Done),
+    (Deed::Names(DAYS, 0, b""), Answer::Done),
+    (Deed::Names(b"queue = 3", 60, b""), Answer::BadConfig),
+    (Deed::Names(b"", 60, b""), Answer::BadConfig),
+    (Deed::Names(b"\xff", 60, b""), Answer::BadConfig),
+];
+
+/// The files that sinks have from their start are told without a pool, all of them or none.
+#[test]
+fn files_of_a_document(rt: HostRuntime) {
+    let wrong = wrong_in(rt.alloc(), NAMED);
+    assert!(rt; wrong.is_none(), "{wrong:?}");
+}
 
 /// A queue that is no power of two.
 const QUEUE: Opening<'static> = Opening {

@@ -1,8 +1,8 @@
 //! Handles that are tried, and each call on them, with what it tells beside its answer.
 use crate::records::{Record, has_records};
 use alog_ffi::{
-    AlogHandle, AlogReport, Answer, Asked, Said, Source, close, dump, find, flush, found, give,
-    log, open, producer, set_level, shutdown, take, work, worker,
+    AlogHandle, AlogReport, Answer, Asked, Said, Source, close, dump, file_names, find, flush,
+    found, give, log, open, producer, set_level, shutdown, take, work, worker,
 };
 use std::alloc::{AllocError, Global};
 use std::mem::{self, ManuallyDrop};
@@ -71,6 +71,8 @@ fn report(numbers: [u64; 6]) -> AlogReport {
 /// What is done. A handle is told by its number.
 #[derive(Clone, Copy)]
 pub enum Deed<'a> {
+    /// The files of a document's sinks are told, into so many bytes: their names.
+    Names(&'a [u8], usize, &'a [u8]),
     /// A file of this name and size is told.
     Founds(usize, &'a [u8], u64),
     /// A pool is opened, with these files.
@@ -173,6 +175,20 @@ impl Trial {
         if let Some(place) = self.handles.get_mut(at) {
             *place = handle;
         }
+    }
+
+    fn names(&self, document: &[u8], room: usize, wanted: &[u8]) -> Seen {
+        let mut bytes = [b'-'; 64];
+        let mut length = 99;
+        let Some(to) = bytes.get_mut(..room) else {
+            return (Answer::InUse, false);
+        };
+        let answer = file_names(self.alloc, document, to, &mut length);
+        let names = match answer {
+            Answer::Done => wanted,
+            _ => b"",
+        };
+        (answer, has_front(&bytes, length, names))
     }
 
     fn founds(&mut self, at: usize, name: &[u8], size: u64) -> Seen {
@@ -334,6 +350,7 @@ impl Trial {
     /// It is done once.
     pub fn does(&mut self, deed: Deed<'_>) -> Seen {
         match deed {
+            Deed::Names(document, room, names) => self.names(document, room, names),
             Deed::Founds(at, name, size) => self.founds(at, name, size),
             Deed::Opens(at, over, opening) => self.opens(at, over, opening),
             Deed::Makes(at, to) => self.makes(at, to),
@@ -388,5 +405,10 @@ fn is_said(answer: Answer, room: &[u8], length: usize, words: &[u8]) -> bool {
         Answer::BadConfig | Answer::NoStore => words,
         _ => b"",
     };
-    room.get(..length) == Some(words) && room.get(length) == Some(&b'-')
+    has_front(room, length, words)
+}
+
+/// Whether these bytes were told, so many, and those behind them left.
+fn has_front(room: &[u8], length: usize, told: &[u8]) -> bool {
+    room.get(..length) == Some(told) && room.get(length) == Some(&b'-')
 }
