@@ -18,11 +18,8 @@ static void *serve(void *at)
     uint32_t net = 0;
     if (answer == ALOG_DONE)
         answer = alog_find(&client.producer, "net", &net);
-    for (int request = 0; request < REQUESTS && answer == ALOG_DONE; request++) {
-        char text[64];
-        int length = snprintf(text, sizeof text, "thread %d served request %d", *thread, request);
-        answer = alog_log_wait(&client, net, ALOG_INFO, text, (size_t)length);
-    }
+    for (int request = 0; request < REQUESTS && answer == ALOG_DONE; request++)
+        answer = alog_printf(&client, net, ALOG_INFO, "thread %d served request %d", *thread, request);
     if (answer != ALOG_DONE)
         fprintf(stderr, "server: thread %d: %s\n", *thread, alog_says(answer));
     alog_client_close(&client);

@@ -6,7 +6,7 @@
        alog_start(&host, document, length, folder, 2);
        alog_client client = {NULL, {0, NULL}};
        alog_client_open(&host, &client);
-       alog_log_wait(&client, 0, ALOG_INFO, "served", 6);
+       alog_printf(&client, 0, ALOG_INFO, "request %d was served", 7);
        alog_client_close(&client);
        alog_report report;
        alog_stop(&host, &report);
@@ -426,6 +426,31 @@ static inline enum alog_answer alog_log_wait(alog_client *client, uint32_t logge
 {
     const alog_message message = {logger, level, alog_now(), text, length, NULL};
     return alog_post_wait(client, &message);
+}
+
+/* Logs a text that is formatted as vprintf does, at the time of the call, and waits for room: ALOG_TEXT_TOO_LONG where it has more bytes than a text
+   may have, ALOG_NOT_UTF8 where it cannot be formatted. It is formatted whatever the level of its logger. */
+ALOG_PRINTS(4, 0)
+static inline enum alog_answer alog_vprintf(alog_client *client, uint32_t logger, enum alog_level level, const char *format, va_list values)
+{
+    char text[ALOG_TEXT_MAX + 1];
+    int length;
+    if (client == NULL || format == NULL)
+        return ALOG_NULL;
+    length = vsnprintf(text, sizeof text, format, values);
+    return length < 0 ? ALOG_NOT_UTF8 : alog_log_wait(client, logger, level, text, ALOG_CAST(size_t, length));
+}
+
+/* The same as printf does. */
+ALOG_PRINTS(4, 5)
+static inline enum alog_answer alog_printf(alog_client *client, uint32_t logger, enum alog_level level, const char *format, ...)
+{
+    enum alog_answer answer;
+    va_list values;
+    va_start(values, format);
+    answer = alog_vprintf(client, logger, level, format, values);
+    va_end(values);
+    return answer;
 }
 
 /* Posts what the backtrace of a logger kept, between two markers of the time of the call. It tries again where another thread is at the

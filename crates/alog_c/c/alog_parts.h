@@ -11,6 +11,7 @@
 #include <pthread.h>
 #include <sched.h>
 #include <signal.h>
+#include <stdarg.h>
 #include <stdio.h>
 #include <stdlib.h>
 #include <sys/file.h>
@@ -21,6 +22,13 @@
 
 #if !defined(CLOCK_REALTIME) || !defined(O_NOFOLLOW) || !defined(AT_FDCWD)
 #error "alog_host.h needs POSIX: define _POSIX_C_SOURCE as 200809L before the first include"
+#endif
+
+/* a function that formats as printf does: the compiler looks at its values */
+#ifdef __GNUC__
+#define ALOG_PRINTS(words, values) __attribute__((format(printf, words, values)))
+#else
+#define ALOG_PRINTS(words, values)
 #endif
 
 #ifdef __cplusplus

@@ -1,8 +1,10 @@
 /* What a host makes of the files of a folder: files FOLDER. Rotating files, over some starts, by a model that does what the configuration says;
-   files by days; and more files than are open at once. */
+   files by days; more files than are open at once; and texts that are formatted. */
 #define _POSIX_C_SOURCE 200809L
 #include "alog_host.h"
 #include "trial.h"
+
+#include <wchar.h>
 
 enum { NAMES = 20, KEPT = 3 };
 
@@ -220,6 +222,30 @@ static void strangers(const char *folder)
     EXPECT(is_there(longest) && is_there("\xff\xfe") && is_there("folder") && is_there("link"), 1);
 }
 
+/* Texts that are formatted, as long as a text may be and longer, and that cannot be; what is refused is in no file. */
+static void prints(const char *folder)
+{
+    static const char config[] = "text = 8192\n[[sink]]\nname = \"a\"\nkind = \"memory\"\nfile = \"log.txt\"\npattern = \"%l %v\"\n"
+                                 "[[logger]]\nname = \"l\"\nsinks = [\"a\"]\n";
+    static char text[2 * ALOG_TEXT_MAX];
+    const char *none = NULL;
+    const wint_t no_letter = 0x7fffffff;
+    enter(folder, "prints");
+    start(config);
+    EXPECT(alog_printf(&client, 0, ALOG_WARNING, "%s %d of %zu%%", "seven", -7, (size_t)100), ALOG_DONE);
+    EXPECT(alog_printf(&client, 0, ALOG_INFO, "%0*d", ALOG_TEXT_MAX, 0), ALOG_DONE);
+    EXPECT(alog_printf(&client, 0, ALOG_INFO, "%0*d", ALOG_TEXT_MAX + 1, 0), ALOG_TEXT_TOO_LONG);
+    EXPECT(alog_printf(&client, 0, ALOG_INFO, "%lc", no_letter), ALOG_NOT_UTF8);
+    EXPECT(alog_printf(&client, 0, ALOG_INFO, "%s", "\xff"), ALOG_NOT_UTF8);
+    EXPECT(alog_printf(&client, 0, ALOG_DEBUG, "%d", 1), ALOG_FILTERED);
+    EXPECT(alog_printf(&client, 1, ALOG_INFO, "%d", 1), ALOG_NO_LOGGER);
+    EXPECT(alog_printf(NULL, 0, ALOG_INFO, "%d", 1), ALOG_NULL);
+    EXPECT(alog_printf(&client, 0, ALOG_INFO, none, 1), ALOG_NULL);
+    stop(2);
+    snprintf(text, sizeof text, "warning seven -7 of 100%%\ninfo %0*d\n", ALOG_TEXT_MAX, 0);
+    expect_file("log.txt", text);
+}
+
 /* Where standard streams are closed, as a daemon has them, no file of a host takes the place of one. */
 static void closed_streams(const char *folder)
 {
@@ -257,6 +283,7 @@ int main(int argc, char **argv)
     days(argv[1], "last_day", 1);
     many_files(argv[1], "many", 300);
     strangers(argv[1]);
+    prints(argv[1]);
     closed_streams(argv[1]);
     is_synced = 1;
     rotations(argv[1], "synced_rotations");
