@@ -3,9 +3,10 @@
 //! A function over any host is dear, whatever it does, and so is a test that calls one: there is one that tests call, `tells` of
 //! `answers.rt`, which answers a `bool`, and each of them calls it in one place.
 use alog_config::{Config, leaves, read};
+use alog_msg::{Level, SourceRef};
 use alog_server::{
-    Client, Folders, Home, LogError, Patience, Ran, RunError, Server, SinkEnd, StartError, Work,
-    folder_stores, start,
+    Client, Folders, Home, LogError, Logger, Patience, Ran, RunError, Server, SinkEnd, StartError,
+    Work, folder_stores, start,
 };
 use alog_sink::Store;
 use std::alloc::{AllocError, Global};
@@ -62,6 +63,72 @@ pub(crate) const HELLO: Talk = Talk {
     messages: 100,
 };
 
+/// Four threads that log ten times, each in a way of its own: with waiting, at once, from a place in a program, and what is kept and dumped.
+struct Ways;
+
+/// Logs at once.
+fn at_once<H: Home>(
+    clock: &impl Clock,
+    client: &mut Client<H>,
+    logger: &Logger<H>,
+) -> Result<(), LogError> {
+    client.log_now(clock, logger, Level::Info, "hello")?;
+    Ok(())
+}
+
+/// Logs from a place in a program.
+fn from_a_place<H: Home>(
+    rt: &(impl Wait + Clock),
+    client: &mut Client<H>,
+    logger: &Logger<H>,
+) -> Result<(), LogError> {
+    let here = SourceRef {
+        file: "main.rs",
+        line: 7,
+        function: "main",
+    };
+    client.log_from(rt, logger, Level::Info, "hello", here)?;
+    Ok(())
+}
+
+/// Dumps what is kept.
+fn dumps<H: Home>(
+    rt: &(impl Wait + Clock),
+    client: &mut Client<H>,
+    logger: &Logger<H>,
+) -> Result<(), LogError> {
+    client.dump_backtrace(rt, logger)?;
+    Ok(())
+}
+
+/// Logs once, in the way of this thread.
+fn says<H: Home>(
+    rt: &(impl Wait + Clock),
+    thread: usize,
+    client: &mut Client<H>,
+    logger: &Logger<H>,
+) -> Result<(), LogError> {
+    match thread {
+        0 => at_once(rt, client, logger),
+        1 => from_a_place(rt, client, logger),
+        2 => dumps(rt, client, logger),
+        _ => Ok(()),
+    }
+}
+
+impl<R: Wait + Clock> Work<R> for Ways {
+    type Error = LogError;
+
+    fn work<H: Home>(&self, rt: &R, thread: usize, client: &mut Client<H>) -> Result<(), LogError> {
+        let logger = client.logger("net")?;
+        for _ in 0..10 {
+            client.info(rt, &logger, "hello")?;
+            says(rt, thread, client, &logger)?;
+        }
+        Ok(())
+    }
+}
+
 /// A thread whose work ends early, with what is printed of its client and of a logger.
 #[derive(Drop)]
 struct Print(Global);
@@ -92,6 +159,8 @@ pub(crate) enum Ask<'a> {
     Run(usize, &'a Talk),
     /// To run one, while others are started over its folder, before and behind that.
     Hold,
+    /// To run threads that log in each way.
+    Ways,
     /// To run one, over the stores of a folder that it does not hold.
     Over,
     /// What is printed of it and of its run, a line each.
@@ -130,6 +199,14 @@ fn ran<R: Threads + Wait + Clock + Sync, S: Store + Drop + Send + 'static, L: Dr
     work: &Talk,
 ) -> Result<Ran<S, LogError, L>, RunError> {
     server.run(rt, threads, work)
+}
+
+/// Lets four threads log, each in its way. What `Server::run` promises is told to no test by it.
+fn ran_in_ways<R: Threads + Wait + Clock + Sync, S: Store + Drop + Send + 'static, L: Drop>(
+    rt: &R,
+    server: Server<S, L>,
+) -> Result<Ran<S, LogError, L>, RunError> {
+    server.run(rt, 4, &Ways)
 }
 
 /// What a run tells.
@@ -251,6 +328,7 @@ fn told_by<R: Host>(
 ) -> Told {
     match ask {
         Ask::Run(threads, work) => told_of(alloc, ran(rt, server, threads, work)),
+        Ask::Ways => told_of(alloc, ran_in_ways(rt, server)),
         Ask::Hold | Ask::Over => held(rt, alloc, server, document, folder),
         Ask::Print => match printed(rt, alloc, server) {
             Ok(text) => Told::Printed(text),

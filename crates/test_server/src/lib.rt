@@ -2,7 +2,7 @@
 //!
 //! Files and the small configuration are of `test_runs`. Read `works.rt` (what a caller is told of its works), `asks.rt` (what a server is
 //! asked, and what it tells), `answers.rt` (whether that is what it is to tell), `places.rt` (folders, and what is none), and
-//! `server_tests.rt`, whose tests loop over rows of these.
+//! `server_tests.rt`, whose tests loop over rows of these; `time_tests.rt` has the times of messages.
 #![tactic(auto)]
 
 #[cfg(test)]
@@ -13,6 +13,8 @@ mod asks;
 mod places;
 #[cfg(test)]
 mod server_tests;
+#[cfg(test)]
+mod time_tests;
 mod works;
 
 pub use works::{Late, told_of_works};
