@@ -9,7 +9,7 @@
 extern "C" {
 #endif
 
-/* Counts a call on a file that failed. It is called under the lock of the files. */
+/* Counts a call on a file that failed. It is called under the lock of the files, or where no worker is there any more. */
 static inline void alog_failed(alog_host *host, int error)
 {
     if (host->failures == 0)

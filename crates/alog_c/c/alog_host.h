@@ -3,7 +3,7 @@
    A program starts a host with its configuration, opens a client in each of its threads, logs, closes the clients and stops the host:
 
        static alog_host host;
-       alog_start(&host, document, length, folder, 2);
+       alog_start(&host, document, length, folder, 1);
        alog_client client = {NULL, {0, NULL}};
        alog_client_open(&host, &client);
        alog_printf(&client, 0, ALOG_INFO, "request %d was served", 7);
@@ -16,7 +16,8 @@
    for gnu99 or later. A process that forks starts its host in the child.
 
    No call is made from a handler of a signal, no thread is cancelled within a call, and a child of a fork uses no host of its parent: it has
-   none of its threads. There all calls on a host, and alog_client_close, do nothing, and answer ALOG_NO_HANDLE; the calls that log do not look.
+   none of its threads. There all calls on that host, and alog_client_close, do nothing, and answer ALOG_NO_HANDLE, but alog_start, which answers
+   ALOG_IN_USE: a child that logs starts a host in a struct of its own. The calls that log do not look.
    The threads of workers hold all signals back but those of a fault of their own, as SIGSEGV.
 
    Files. The folder has to be there. It is held by a lock on its file `.alog.lock`, as the program `alog` holds it: two that rotate the same
@@ -428,8 +429,9 @@ static inline enum alog_answer alog_log_wait(alog_client *client, uint32_t logge
     return alog_post_wait(client, &message);
 }
 
-/* Logs a text that is formatted as vprintf does, at the time of the call, and waits for room: ALOG_TEXT_TOO_LONG where it has more bytes than a text
-   may have, ALOG_NOT_UTF8 where it cannot be formatted. It is formatted whatever the level of its logger. */
+/* Logs a text that is formatted as vprintf does, by the thread's locale, at the time of the call, and waits for room. It is not cut:
+   ALOG_TEXT_TOO_LONG where it has more bytes than the key `text` of the configuration says, which are 2,048 where it does not. ALOG_NOT_UTF8
+   where it cannot be formatted, or what comes out is no UTF-8. It is formatted whatever the level of its logger. */
 ALOG_PRINTS(4, 0)
 static inline enum alog_answer alog_vprintf(alog_client *client, uint32_t logger, enum alog_level level, const char *format, va_list values)
 {
@@ -438,7 +440,9 @@ static inline enum alog_answer alog_vprintf(alog_client *client, uint32_t logger
     if (client == NULL || format == NULL)
         return ALOG_NULL;
     length = vsnprintf(text, sizeof text, format, values);
-    return length < 0 ? ALOG_NOT_UTF8 : alog_log_wait(client, logger, level, text, ALOG_CAST(size_t, length));
+    if (length < 0)
+        return errno == EOVERFLOW ? ALOG_TEXT_TOO_LONG : ALOG_NOT_UTF8;
+    return alog_log_wait(client, logger, level, text, ALOG_CAST(size_t, length));
 }
 
 /* The same as printf does. */

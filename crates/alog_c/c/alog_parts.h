@@ -26,7 +26,7 @@
 
 /* a function that formats as printf does: the compiler looks at its values */
 #ifdef __GNUC__
-#define ALOG_PRINTS(words, values) __attribute__((format(printf, words, values)))
+#define ALOG_PRINTS(words, values) __attribute__((__format__(__printf__, words, values)))
 #else
 #define ALOG_PRINTS(words, values)
 #endif

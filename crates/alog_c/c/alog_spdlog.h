@@ -1,6 +1,6 @@
 // A sink of spdlog that hands each message to alog. A program makes a host, and changes the line that makes its logger:
 //
-//     auto host = alog::make_host(document, folder, 2);
+//     auto host = alog::make_host(document, folder, 1);
 //     spdlog::set_default_logger(alog::make_logger(host, "net"));
 //     ..
 //     spdlog::shutdown();

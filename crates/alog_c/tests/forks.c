@@ -27,18 +27,30 @@ static void stop(uint64_t handled)
     EXPECT(host.failures, 0);
 }
 
+/* Whether a child starts and stops a host of its own. */
+static int has_own(const char *folder)
+{
+    static alog_host own;
+    static alog_client mine;
+    alog_report report;
+    const char *place = path_of(folder, "own");
+    return trial_folder(place) == 0 && alog_start(&own, config, sizeof config - 1, place, 1) == ALOG_DONE &&
+           alog_client_open(&own, &mine) == ALOG_DONE && alog_log_wait(&mine, 0, ALOG_INFO, "own", 3) == ALOG_DONE &&
+           alog_client_close(&mine) == ALOG_DONE && alog_stop(&own, &report) == ALOG_DONE && report.handled == 1 && own.failures == 0;
+}
+
 /* Whether a child is refused whatever it asks of its parent's host and client. */
-static int is_refused(void)
+static int is_refused(const char *folder)
 {
     alog_client other = {NULL, {0, NULL}};
     alog_report report;
     uint32_t logger;
     return alog_client_open(&host, &other) == ALOG_NO_HANDLE && alog_host_find(&host, "net", &logger) == ALOG_NO_HANDLE &&
            alog_host_set_level(&host, 0, ALOG_OFF) == ALOG_NO_HANDLE && alog_client_close(&client) == ALOG_NO_HANDLE &&
-           alog_stop(&host, &report) == ALOG_NO_HANDLE;
+           alog_stop(&host, &report) == ALOG_NO_HANDLE && alog_start(&host, config, sizeof config - 1, folder, 1) == ALOG_IN_USE;
 }
 
-/* A child asks its parent's host, closes and stops what is its parent's, and is refused; the parent goes on. */
+/* A child asks its parent's host, closes and stops what is its parent's, and is refused; it has a host of its own; the parent goes on. */
 static void refused(const char *folder)
 {
     int status = 0;
@@ -47,7 +59,7 @@ static void refused(const char *folder)
     EXPECT(alog_log_wait(&client, 0, ALOG_INFO, "before", 6), ALOG_DONE);
     child = fork();
     if (child == 0)
-        _exit(is_refused() ? 0 : 1);
+        _exit(is_refused(folder) && has_own(folder) ? 0 : 1);
     EXPECT(waitpid(child, &status, 0), child);
     EXPECT(status, 0);
     EXPECT(alog_log_wait(&client, 0, ALOG_INFO, "behind", 6), ALOG_DONE);
