@@ -1,5 +1,5 @@
 -- Where the stores of all have ended, nothing more comes: each later take that has room answers that, and leaves all as it is.
-use Rattle.std.proofs.Common.{◌≡◌, ℕ, zero, suc, ◌+◌, ◌<◌, ◌≤◌, List, [], ◌∷◌, length, All, refl, sym, ap, subst, ◌∙◌, inl, inr, arith}
+use Rattle.std.proofs.Common.{◌≡◌, ℕ, zero, suc, ◌≤◌, List, [], ◌∷◌, length, All, refl, sym, ap, subst, ◌∙◌, inl, inr, arith}
 use Rattle.std.specs.Prelude.{slice_get, IsSome, Some, None}
 use Rattle.alog_ffi.specs.Files.{AreLeft, AnswersTake, EndsSo, IsOver}
 use Rattle.alog_outbox.specs.Views.{DrainView, HasAll}

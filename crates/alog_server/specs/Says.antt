@@ -1,4 +1,4 @@
--- The calls of a client: each is one of its producer's, with the time that the clock told.
+-- The calls of a client: each is one of its producer's, with some time; what a clock tells, no contract says.
 use Rattle.std.specs.Prelude.{◌≡◌, ◌≢◌, ◌<◌, ◌⊎◌, ℕ, ℤ, List, length, Option, Some, Result, Ok, Err}
 use Rattle.std.specs.declared.alloc.Global.{Global}
 use Rattle.std.specs.Prelude.{Vec}
@@ -67,7 +67,7 @@ abbrev pub SaysAt : ℤ → How → ℕ → Level → List ℕ → Option Source
 SaysAt time how number level text source old (Ok reply) new = HasLogged time how number level text source old reply new
 SaysAt time how number level text source old (Err e) new = (new ≡ old) × IsReason old.limit text source e × WantsForBacktrace number old e
 
--- the same with the time that the clock told
+-- the same with some time
 abbrev pub Says : How → ℕ → Level → List ℕ → Option SourceRef → ProducerView → Result LogReply LogError → ProducerView → Type 0
 Says how number level text source old (Ok reply) new = (time : ℤ) × HasLogged time how number level text source old reply new
 Says how number level text source old (Err e) new = (new ≡ old) × IsReason old.limit text source e × WantsForBacktrace number old e
@@ -96,7 +96,7 @@ abbrev pub DumpsAt : ℤ → ℕ → ProducerView → Result (Vec (Outcome (Unit
 DumpsAt time number old (Ok outcomes) new = HasDumped time number old outcomes.items new
 DumpsAt time number old (Err e) new = (new ≡ old) × (e ≡ log.OutOfMemory)
 
--- the same with the time that the clock told
+-- the same with some time
 abbrev pub Dumps : ℕ → ProducerView → Result (Vec (Outcome (Unit {0})) Global) LogError → ProducerView → Type 0
 Dumps number old (Ok outcomes) new = (time : ℤ) × HasDumped time number old outcomes.items new
 Dumps number old (Err e) new = (new ≡ old) × ((e ≡ log.NoTime) ⊎ (e ≡ log.OutOfMemory))
