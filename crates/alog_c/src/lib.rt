@@ -7,7 +7,7 @@
 
 ghost use Rattle.std.specs.Prelude.{◌≡◌, Some, None};
 ghost use Rattle.alog_ffi.specs.Answers.{number_of};
-ghost use Rattle.alog_ffi.specs.Calls.{AnswersDump, AnswersEnd, AnswersFind, AnswersFlush, AnswersGive, AnswersLog, AnswersSetLevel, AnswersWork, MakesProducer, MakesWorker, OnProducer, OnWorker};
+ghost use Rattle.alog_ffi.specs.Calls.{AnswersDump, AnswersEnd, AnswersFind, AnswersFlush, AnswersGive, AnswersIsOn, AnswersLog, AnswersSetLevel, AnswersWork, MakesProducer, MakesWorker, OnProducer, OnWorker};
 ghost use Rattle.alog_ffi.specs.Files.{AnswersClose, AnswersFound, AnswersTake, IsUntaken, OnFiles};
 ghost use Rattle.alog_ffi.specs.Handles.{held};
 ghost use Rattle.alog_ffi.specs.Names.{AnswersNames};
@@ -117,6 +117,15 @@ pub extern "C" fn alog_c_set_level(
     ensures set { (a : Answer) × (result ≡ number_of a) × AnswersSetLevel (held at.old) logger level a }
 {
     alog_ffi::set_level(alloc, at, logger, level).number()
+}
+
+/// Asks whether a logger reads a message of this level, by the handle of a producer or of its pool.
+#[unsafe(no_mangle)]
+pub extern "C" fn alog_c_is_on(alloc: Global, at: &mut AlogHandle, logger: u32, level: u32) -> u32
+    ensures same { held at.new ≡ held at.old }
+    ensures told { (a : Answer) × (result ≡ number_of a) × AnswersIsOn (held at.old) logger level a }
+{
+    alog_ffi::is_on(alloc, at, logger, level).number()
 }
 
 /// Logs a text.

@@ -1,10 +1,11 @@
 -- What C calls, on handles.
-use Rattle.std.specs.Prelude.{◌≡◌, ◌≢◌, ◌⊎◌, ◌<◌, ◌≤◌, ℕ, ℤ, true, List, length, Some, None, Result, Ok, Err, Vec}
+use Rattle.std.specs.Prelude.{◌≡◌, ◌≢◌, ◌⊎◌, ◌<◌, ◌≤◌, ℕ, ℤ, true, false, List, length, Some, None, Result, Ok, Err, Vec}
 use Rattle.std.specs.declared.alloc.Global.{Global}
 use Rattle.std.specs.Str.{IsUtf8}
 use Rattle.alog_ffi.specs.Answers.{answer_by, answer_of_log, answer_of_pause, answer_of_post}
 use Rattle.alog_ffi.specs.Held.{loggers_of}
 use Rattle.alog_ffi.specs.Reports.{IsReportOf}
+use Rattle.alog_ffi.specs.Said.{IsLevelOf}
 use Rattle.alog_ffi.specs.Saying.{DumpsSo, FlushesSo, LogsSo}
 use Rattle.alog_ffi.specs.Stores.{failures_of}
 use Rattle.alog_ffi.specs.declared.answer.Answer.{Answer}
@@ -16,12 +17,14 @@ use Rattle.alog_ffi.specs.declared.said.Said.{Said}
 use Rattle.alog_hosted.specs.declared.once.Once.{Once}
 use Rattle.alog_hosted.specs.declared.once.Once.TheVariants.{Logged}
 use Rattle.alog_hosted.specs.declared.worker.Work.{Work}
+use Rattle.alog_msg.specs.declared.level.Level.{Level}
 use Rattle.alog_outbox.specs.Views.{OutboxView, files_of}
 use Rattle.alog_owned.specs.Owned.{EndsSo, HiresBy, MakesBy, OwnedPoolView, OwnedProducerView, OwnedWorkerView, WorksBy}
 use Rattle.alog_policy.specs.declared.policy.Outcome.{Outcome}
 use Rattle.alog_policy.specs.declared.policy.Outcome.TheVariants as outcome
 use Rattle.alog_pool.specs.declared.report.Report.{Report}
 use Rattle.alog_registry.specs.Listed.{name_at}
+use Rattle.alog_registry.specs.Logging.{IsOn}
 use Rattle.alog_registry.specs.declared.logger.Logger.{Logger}
 use Rattle.alog_registry.specs.declared.logging.LogReply.TheVariants as reply
 
@@ -125,6 +128,20 @@ AnswersSetLevel at number level answer.Done = (level ≤ 6) × ((ls : List Logge
 AnswersSetLevel at number level answer.NoLogger = (level ≤ 6) × ((ls : List Logger) × (loggers_of at ≡ Some ls) × (length ls ≤ number))
 AnswersSetLevel at number level answer.NoLevel = 6 < level
 AnswersSetLevel at number level a = (level ≤ 6) × IsWithout at a
+
+-- whether a logger of these reads a message of this level
+abbrev pub IsOnAmong : List Logger → ℕ → Level → Answer → Type 0
+IsOnAmong loggers number level answer.Done = IsOn loggers number level true
+IsOnAmong loggers number level answer.Filtered = (number < length loggers) × IsOn loggers number level false
+IsOnAmong loggers number level answer.NoLogger = length loggers ≤ number
+IsOnAmong loggers number level a = ⊥
+
+-- the same by the numbers that C has, or why it is not told, the first reason
+abbrev pub AnswersIsOn : Part → ℕ → ℕ → Answer → Type 0
+AnswersIsOn at number level answer.NoLevel = 6 < level
+AnswersIsOn at number level answer.NoHandle = (level ≤ 6) × IsWithout at answer.NoHandle
+AnswersIsOn at number level answer.WrongHandle = (level ≤ 6) × IsWithout at answer.WrongHandle
+AnswersIsOn at number level a = (l : Level) × IsLevelOf level (Some l) × ((ls : List Logger) × (loggers_of at ≡ Some ls) × IsOnAmong ls number l a)
 
 -- A pool ended, which leaves its handle empty, and this is told of it; or it did not, which is the answer, and all stays.
 abbrev pub AnswersEnd : Part → AlogReport → AlogReport → Answer → Part → Type 0

@@ -38,7 +38,7 @@ pub use naming::file_names;
 pub use opening::Asked;
 pub use part::Part;
 pub use pools::{open, producer, shutdown, worker};
-pub use producers::{dump, find, flush, log, set_level};
+pub use producers::{dump, find, flush, is_on, log, set_level};
 pub use report::AlogReport;
 pub use said::{Heard, Said, Source};
 pub use slot::Slot;

@@ -1,6 +1,6 @@
 //! Calls of those who log, on the handle of a producer, and what both it and its pool answer.
 ghost use Rattle.std.specs.Prelude.{◌≡◌, ◌≢◌};
-ghost use Rattle.alog_ffi.specs.Calls.{AnswersDump, AnswersFind, AnswersFlush, AnswersLog, AnswersSetLevel, OnProducer, ticket_by};
+ghost use Rattle.alog_ffi.specs.Calls.{AnswersDump, AnswersFind, AnswersFlush, AnswersIsOn, AnswersLog, AnswersSetLevel, IsOnAmong, OnProducer, ticket_by};
 ghost use Rattle.alog_ffi.specs.Handles.{held};
 ghost use Rattle.alog_ffi.specs.declared.part.Part.TheVariants.{Nothing};
 
@@ -11,10 +11,11 @@ use crate::logging::{dump_of, flush_of, say};
 use crate::part::Part;
 use crate::said::Said;
 use alog_hosted::Once;
+use alog_msg::Level;
 use alog_outbox::Outbox;
 use alog_owned::OwnedProducer;
 use alog_policy::Outcome;
-use alog_registry::LogReply;
+use alog_registry::{LogReply, Loggers};
 use std::alloc::Global;
 use std::str;
 
@@ -74,6 +75,39 @@ pub fn set_level(alloc: Global, at: &mut AlogHandle, logger: u32, level: u32) ->
     };
     at.put(part);
     answer
+}
+
+/// Asks whether a logger reads a message of this level: where it is not below the logger's level as it is now, or where the logger has a backtrace,
+/// which keeps it; `Filtered` where it does not. By the handle of a producer or of its pool.
+pub fn is_on(alloc: Global, at: &mut AlogHandle, logger: u32, level: u32) -> Answer
+    ensures same { held at.new ≡ held at.old }
+    ensures told { AnswersIsOn (held at.old) logger level result }
+{
+    let Some(level) = level_of(level) else {
+        return Answer::NoLevel;
+    };
+    let Some(part) = at.take(alloc) else {
+        return Answer::NoHandle;
+    };
+    let answer = match part.loggers() {
+        Some(loggers) => hears(loggers, logger, level),
+        None => Answer::WrongHandle,
+    };
+    at.put(part);
+    answer
+}
+
+/// Whether a logger of these reads a message of this level.
+fn hears(loggers: &Loggers, logger: u32, level: Level) -> Answer
+    ensures { IsOnAmong loggers.now logger level result }
+{
+    if logger as usize >= loggers.len() {
+        Answer::NoLogger
+    } else if loggers.is_on(logger, level) {
+        Answer::Done
+    } else {
+        Answer::Filtered
+    }
 }
 
 /// Logs what was said by a producer. Where it was posted, its ticket is told.

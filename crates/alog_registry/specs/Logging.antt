@@ -1,5 +1,5 @@
 -- What a logger does with a message.
-use Rattle.std.specs.Prelude.{◌≡◌, ◌<◌, ◌==◌, Bool, false, if◌then◌else◌, [], Option, None, Some}
+use Rattle.std.specs.Prelude.{◌≡◌, ◌<◌, ◌==◌, ℕ, Bool, true, false, if◌then◌else◌, List, [], length, Option, None, Some}
 use Rattle.alog_msg.specs.Level.{row_of}
 use Rattle.alog_msg.specs.declared.item.Item.{Item}
 use Rattle.alog_msg.specs.declared.item.Item.TheVariants.{Text}
@@ -9,6 +9,8 @@ use Rattle.alog_policy.specs.Outlet.{Doing, IsPostedOrSpent}
 use Rattle.alog_policy.specs.declared.policy.Policy.{Policy}
 use Rattle.alog_registry.specs.ItemOutlet.{PostsItem}
 use Rattle.alog_registry.specs.Keep.{KeptOr}
+use Rattle.alog_registry.specs.Listed.{spec_at}
+use Rattle.alog_registry.specs.declared.logger.Logger.{Logger}
 use Rattle.alog_registry.specs.declared.logger.Spec.{Spec}
 use Rattle.alog_registry.specs.declared.logging.LogReply.{LogReply}
 use Rattle.alog_registry.specs.declared.logging.LogReply.TheVariants as reply
@@ -16,6 +18,13 @@ use Rattle.alog_registry.specs.declared.logging.LogReply.TheVariants as reply
 -- a message of this level is filtered by a logger of that one
 abbrev pub IsBelow : Level → Level → Type 0
 IsBelow level own = (row_of level).number < (row_of own).number
+
+-- Whether the logger of this number reads a message of this level: one that it does not read is below the level that it has then, and there is
+-- no backtrace that keeps it.
+abbrev pub IsOn : List Logger → ℕ → Level → Bool → Type 0
+IsOn loggers number level true = number < length loggers
+IsOn loggers number level false =
+    (s : Spec) → spec_at loggers number ≡ Some s → (s.backtrace ≡ 0) × ((own : Level) × IsBelow level own)
 
 -- what is kept of a message: all of it where its logger has a backtrace
 abbrev pub copy_of : Spec → Message → Option Message

@@ -2,6 +2,7 @@
 ghost use Rattle.std.specs.Prelude.{◌≡◌, ◌==◌, ◌↔◌, ◌<◌, ◌≤◌, ℕ, length, Some, IsTrue, IsSome, vec_len};
 ghost use Rattle.std.specs.Option.{option_copied};
 ghost use Rattle.alog_registry.specs.Listed.{name_at, spec_at};
+ghost use Rattle.alog_registry.specs.Logging.{IsOn};
 
 use crate::LOGGERS_MAX;
 use crate::level_word::LevelWord;
@@ -87,6 +88,18 @@ impl Loggers {
         match self.levels.get(number as usize) {
             Some(word) => Some(word.get()),
             None => None,
+        }
+    }
+
+    /// Whether the logger of this number reads a message of this level: where it is not below the logger's level as it is now,
+    /// or where the logger has a backtrace, which keeps it. `false` where there is no such logger. What is not read is filtered
+    /// whatever its text is, so who asks first need not make that text. The test `levels_are_on` shows it.
+    pub fn is_on(&self, number: u32, level: Level) -> bool
+        ensures { IsOn self.now number level result }
+    {
+        match (self.spec(number), self.level(number)) {
+            (Some(spec), Some(own)) => spec.backtrace > 0 || own.number() <= level.number(),
+            _ => false,
         }
     }
 

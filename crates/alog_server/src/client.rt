@@ -11,7 +11,8 @@ use std::alloc::Global;
 use std::fmt;
 use std::marker::{Model, PhantomData};
 
-/// What a thread of a server logs with. `calls.rt` has its calls. Contracts see it as its producer. Like that it is no `Drop`.
+/// What a thread of a server logs with. `calls.rt` has its calls, and `levels.rt` those on levels. Contracts see it as its
+/// producer. Like that it is no `Drop`.
 pub struct Client<H: Home> {
     pub(crate) alloc: Global,
     pub(crate) producer: Producer,

@@ -14,9 +14,9 @@
 //! A `Home` is a pool as a type: clients and loggers name it, so that a logger of one pool cannot be used with another.
 //! `Server::run` picks it (`specs/Homes.antt`). A client's calls are those of `alog_pool::Producer` (`specs/Says.antt`).
 //!
-//! Read `home.rt`, `logger.rt`, `client.rt` and `calls.rt` (what a thread logs with), `work.rt`, `seats.rt` (the clients of all
-//! threads), `sink_end.rt` (what is told of each sink) and `server.rt`; then `opening.rt` over `writable.rt` (what keeps files
-//! from being written to a folder), `setup.rt`, `producers.rt` and `folders.rt`, and `error.rt`.
+//! Read `home.rt`, `logger.rt`, `client.rt`, `calls.rt` and `levels.rt` (what a thread logs with), `work.rt`, `seats.rt` (the
+//! clients of all threads), `sink_end.rt` (what is told of each sink) and `server.rt`; then `opening.rt` over `writable.rt` (what
+//! keeps files from being written to a folder), `setup.rt`, `producers.rt` and `folders.rt`, and `error.rt`.
 #![tactic(auto)]
 
 mod calls;
@@ -24,6 +24,7 @@ mod client;
 mod error;
 mod folders;
 mod home;
+mod levels;
 mod logger;
 mod opening;
 mod producers;

@@ -13,7 +13,9 @@ static EMPTY: &[Row<'static>] = &[
     (Deed::Finds(NONE, b"app", UNTOLD), Answer::NoHandle),
     (Deed::Finds(NONE, b"\xff", UNTOLD), Answer::NotUtf8),
     (Deed::Sets(NONE, 0, 2), Answer::NoHandle),
+    (Deed::Asks(NONE, 0, 2), Answer::NoHandle),
     (Deed::Sets(NONE, 0, 7), Answer::NoLevel),
+    (Deed::Asks(NONE, 0, 7), Answer::NoLevel),
     (Deed::Says(NONE, b"a", UNTOLD), Answer::NoHandle),
     (Deed::Logs(NONE, 9, 9, b"\xff", UNTOLD), Answer::NoHandle),
     (
@@ -102,6 +104,7 @@ static OF_A_WORKER: &[Row<'static>] = &[
     (Deed::Hires(POOL, WRITER), Answer::InUse),
     (Deed::Finds(WRITER, b"app", UNTOLD), Answer::WrongHandle),
     (Deed::Sets(WRITER, 0, 5), Answer::WrongHandle),
+    (Deed::Asks(WRITER, 0, 5), Answer::WrongHandle),
     (Deed::Says(WRITER, b"a", UNTOLD), Answer::WrongHandle),
     (
         Deed::Tells(WRITER, 0, b"a", b"a.c", b"f", UNTOLD),
@@ -131,6 +134,7 @@ static OF_FILES: &[Row<'static>] = &[
     (Deed::Hires(POOL, FILES), Answer::InUse),
     (Deed::Finds(FILES, b"app", UNTOLD), Answer::WrongHandle),
     (Deed::Sets(FILES, 0, 5), Answer::WrongHandle),
+    (Deed::Asks(FILES, 0, 5), Answer::WrongHandle),
     (Deed::Says(FILES, b"a", UNTOLD), Answer::WrongHandle),
     (
         Deed::Tells(FILES, 0, b"a", b"a.c", b"f", UNTOLD),
@@ -164,6 +168,7 @@ static OF_FOUND_FILES: &[Row<'static>] = &[
     (Deed::Makes(NONE, FILES), Answer::InUse),
     (Deed::Finds(FILES, b"app", UNTOLD), Answer::WrongHandle),
     (Deed::Sets(FILES, 0, 5), Answer::WrongHandle),
+    (Deed::Asks(FILES, 0, 5), Answer::WrongHandle),
     (Deed::Says(FILES, b"a", UNTOLD), Answer::WrongHandle),
     (Deed::Flushes(FILES, 0, UNTOLD), Answer::WrongHandle),
     (Deed::Dumps(FILES, 0, 0), Answer::WrongHandle),

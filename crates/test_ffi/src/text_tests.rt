@@ -34,9 +34,13 @@ static LOGGERS: &[Row<'static>] = &[
     (Deed::Dumps(TALKER, u32::MAX, 0), Answer::NoLogger),
     (Deed::Dumps(TALKER, 0, 0), Answer::Done),
     (Deed::Sets(TALKER, 1, 2), Answer::NoLogger),
+    (Deed::Asks(TALKER, 1, 2), Answer::NoLogger),
     (Deed::Sets(POOL, u32::MAX, 2), Answer::NoLogger),
+    (Deed::Asks(POOL, u32::MAX, 2), Answer::NoLogger),
     (Deed::Sets(TALKER, 1, 7), Answer::NoLevel),
+    (Deed::Asks(TALKER, 1, 7), Answer::NoLevel),
     (Deed::Sets(POOL, 0, u32::MAX), Answer::NoLevel),
+    (Deed::Asks(POOL, 0, u32::MAX), Answer::NoLevel),
     (Deed::Logs(TALKER, 0, 7, b"a", UNTOLD), Answer::NoLevel),
     (
         Deed::Logs(TALKER, 0, u32::MAX, b"\xff", UNTOLD),
@@ -55,23 +59,35 @@ fn no_such_logger_or_level(rt: HostRuntime) {
 static LEVELS: &[Row<'static>] = &[
     (Deed::Logs(TALKER, 0, 1, b"a", UNTOLD), Answer::Filtered),
     (Deed::Sets(TALKER, 0, 0), Answer::Done),
+    (Deed::Asks(POOL, 0, 0), Answer::Done),
     (Deed::Logs(TALKER, 0, 0, b"trace", 0), Answer::Done),
     (Deed::Sets(POOL, 0, 1), Answer::Done),
+    (Deed::Asks(POOL, 0, 0), Answer::Filtered),
+    (Deed::Asks(TALKER, 0, 1), Answer::Done),
     (Deed::Logs(TALKER, 0, 0, b"a", UNTOLD), Answer::Filtered),
     (Deed::Logs(TALKER, 0, 1, b"debug", 1), Answer::Done),
     (Deed::Sets(TALKER, 0, 3), Answer::Done),
+    (Deed::Asks(TALKER, 0, 2), Answer::Filtered),
+    (Deed::Asks(POOL, 0, 3), Answer::Done),
     (Deed::Logs(TALKER, 0, 2, b"a", UNTOLD), Answer::Filtered),
     (Deed::Logs(TALKER, 0, 3, b"warning", 2), Answer::Done),
     (Deed::Sets(TALKER, 0, 7), Answer::NoLevel),
+    (Deed::Asks(TALKER, 0, 7), Answer::NoLevel),
     (Deed::Logs(TALKER, 0, 3, b"warning", 3), Answer::Done),
     (Deed::Works(WRITER, 9, 4), Answer::Idle),
     (Deed::Sets(POOL, 0, 4), Answer::Done),
+    (Deed::Asks(POOL, 0, 3), Answer::Filtered),
+    (Deed::Asks(TALKER, 0, 4), Answer::Done),
     (Deed::Logs(TALKER, 0, 3, b"a", UNTOLD), Answer::Filtered),
     (Deed::Logs(TALKER, 0, 4, b"error", 4), Answer::Done),
     (Deed::Sets(POOL, 0, 5), Answer::Done),
+    (Deed::Asks(POOL, 0, 4), Answer::Filtered),
+    (Deed::Asks(TALKER, 0, 5), Answer::Done),
     (Deed::Logs(TALKER, 0, 4, b"a", UNTOLD), Answer::Filtered),
     (Deed::Logs(TALKER, 0, 5, b"critical", 5), Answer::Done),
     (Deed::Sets(POOL, 0, 6), Answer::Done),
+    (Deed::Asks(POOL, 0, 5), Answer::Filtered),
+    (Deed::Asks(TALKER, 0, 6), Answer::Done),
     (Deed::Logs(TALKER, 0, 5, b"a", UNTOLD), Answer::Filtered),
     (Deed::Logs(TALKER, 0, 5, b"\xff", UNTOLD), Answer::Filtered),
     (Deed::Flushes(TALKER, 0, 6), Answer::Done),
@@ -120,6 +136,8 @@ static TWO_LEVELS: &[Row<'static>] = &[
     (Deed::Opens(POOL, FILES, TWO), Answer::Done),
     (Deed::Makes(POOL, TALKER), Answer::Done),
     (Deed::Sets(TALKER, 1, 4), Answer::Done),
+    (Deed::Asks(TALKER, 1, 3), Answer::Filtered),
+    (Deed::Asks(TALKER, 0, 3), Answer::Done),
     (Deed::Logs(TALKER, 1, 3, b"a", UNTOLD), Answer::Filtered),
     (Deed::Logs(TALKER, 0, 2, b"b", 0), Answer::Done),
     (Deed::Sets(POOL, 0, 5), Answer::Done),
@@ -298,5 +316,34 @@ static SOURCES: &[Row<'static>] = &[
 #[test]
 fn sources(rt: HostRuntime) {
     let wrong = wrong_of(rt.alloc(), [SOURCES, NOTHING, NOTHING], 0);
+    assert!(rt; wrong.is_none(), "{wrong:?}");
+}
+
+/// A pool whose logger lets nothing through, and keeps all for a backtrace.
+const KEEPING: Opening<'static> = Opening {
+    document: b"[[sink]]\nname = \"main\"\nkind = \"memory\"\n\
+[[logger]]\nname = \"one\"\nsinks = [\"main\"]\nlevel = \"off\"\nbacktrace = 1\n",
+    producers: 1,
+    areas: 1,
+    room: 0,
+    words: b"",
+};
+
+static KEPT: &[Row<'static>] = &[
+    (Deed::Opens(POOL, FILES, KEEPING), Answer::Done),
+    (Deed::Makes(POOL, TALKER), Answer::Done),
+    (Deed::Asks(POOL, 0, 0), Answer::Done),
+    (Deed::Asks(TALKER, 0, 5), Answer::Done),
+    (Deed::Logs(TALKER, 0, 5, b"a", UNTOLD), Answer::Filtered),
+    (Deed::Dumps(TALKER, 0, 3), Answer::Done),
+    (Deed::Gives(TALKER), Answer::Done),
+    (Deed::Ends(POOL, [3, 3, 0, 0, 3, 0]), Answer::Done),
+    (Deed::Closes(FILES), Answer::Done),
+];
+
+/// A logger that keeps a backtrace reads each level.
+#[test]
+fn what_is_kept_is_on(rt: HostRuntime) {
+    let wrong = wrong_of(rt.alloc(), [KEPT, NOTHING, NOTHING], 0);
     assert!(rt; wrong.is_none(), "{wrong:?}");
 }

@@ -2,7 +2,7 @@
 use crate::records::{Record, has_records};
 use alog_ffi::{
     AlogHandle, AlogReport, Answer, Asked, Said, Source, close, dump, file_names, find, flush,
-    found, give, log, open, producer, set_level, shutdown, take, work, worker,
+    found, give, is_on, log, open, producer, set_level, shutdown, take, work, worker,
 };
 use std::alloc::{AllocError, Global};
 use std::mem::{self, ManuallyDrop};
@@ -85,6 +85,8 @@ pub enum Deed<'a> {
     Finds(usize, &'a [u8], u64),
     /// The level of a logger is set.
     Sets(usize, u32, u32),
+    /// Whether a logger reads a message of this level is asked.
+    Asks(usize, u32, u32),
     /// A text of this level is logged to a logger: its ticket.
     Logs(usize, u32, u32, &'a [u8], u64),
     /// A text of level info is logged to the first logger: its ticket.
@@ -247,6 +249,13 @@ impl Trial {
         (answer, true)
     }
 
+    fn asks(&mut self, at: usize, logger: u32, level: u32) -> Seen {
+        let mut handle = self.out(at);
+        let answer = is_on(self.alloc, &mut handle, logger, level);
+        self.back(at, handle);
+        (answer, true)
+    }
+
     fn logs(&mut self, at: usize, said: Said<'_>, wanted: u64) -> Seen {
         let mut ticket = UNTOLD;
         let mut own = self.out(at);
@@ -357,6 +366,7 @@ impl Trial {
             Deed::Hires(at, to) => self.hires(at, to),
             Deed::Finds(at, name, number) => self.finds(at, name, number),
             Deed::Sets(at, logger, level) => self.sets(at, logger, level),
+            Deed::Asks(at, logger, level) => self.asks(at, logger, level),
             Deed::Logs(at, logger, level, text, ticket) => {
                 self.says(at, logger, level, text, ticket)
             }

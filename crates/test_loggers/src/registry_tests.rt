@@ -209,6 +209,42 @@ fn levels_are_set(rt: HostRuntime) {
     are_as_added(&rt, &loggers);
 }
 
+static LEVELS: [Level; 7] = [
+    Level::Trace,
+    Level::Debug,
+    Level::Info,
+    Level::Warning,
+    Level::Error,
+    Level::Critical,
+    Level::Off,
+];
+
+// This logger reads the messages of these levels, and none of those before.
+fn are_on(rt: &impl Abort, loggers: &Loggers, number: u32, least: usize) {
+    for (place, level) in LEVELS.iter().enumerate() {
+        let is = loggers.is_on(number, *level);
+        assert!(rt; is == (least <= place), "{number}, {place}");
+    }
+}
+
+// A logger reads what is not below its level; with a backtrace, all; and one that there is not, nothing.
+#[test]
+fn levels_are_on(rt: HostRuntime) {
+    let mut registry = Registry::new(rt.alloc());
+    adds(&rt, rt.alloc(), &mut registry, "net", 1, 0);
+    adds(&rt, rt.alloc(), &mut registry, "db", 0, 1);
+    let loggers = frozen(&rt, rt.alloc(), registry);
+    are_on(&rt, &loggers, 0, 0);
+    are_on(&rt, &loggers, 1, 2);
+    sets(&rt, &loggers, 0, Level::Off, true);
+    for (least, level) in LEVELS.iter().enumerate() {
+        sets(&rt, &loggers, 1, *level, true);
+        are_on(&rt, &loggers, 1, least);
+        are_on(&rt, &loggers, 0, 0);
+    }
+    are_on(&rt, &loggers, 2, 7);
+}
+
 // Sets the level of logger 0 to the one of this name, while another thread reads it.
 fn sets_beside_a_reader(rt: &(impl Abort + Threads), loggers: &Loggers, name: &str) {
     let Some(level) = Level::read(name) else {

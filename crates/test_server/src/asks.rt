@@ -2,6 +2,7 @@
 //!
 //! A function over any host is dear, whatever it does, and so is a test that calls one: there is one that tests call, `tells` of
 //! `answers.rt`, which answers a `bool`, and each of them calls it in one place.
+use crate::leveling::Leveling;
 use alog_config::{Config, leaves, read};
 use alog_msg::{Level, SourceRef};
 use alog_server::{
@@ -161,6 +162,8 @@ pub(crate) enum Ask<'a> {
     Hold,
     /// To run threads that log in each way.
     Ways,
+    /// To run one that sets levels.
+    Levels,
     /// To run one, over the stores of a folder that it does not hold.
     Over,
     /// What is printed of it and of its run, a line each.
@@ -207,6 +210,14 @@ fn ran_in_ways<R: Threads + Wait + Clock + Sync, S: Store + Drop + Send + 'stati
     server: Server<S, L>,
 ) -> Result<Ran<S, LogError, L>, RunError> {
     server.run(rt, 4, &Ways)
+}
+
+/// Lets one thread set levels. What `Server::run` promises is told to no test by it.
+fn ran_at_levels<R: Threads + Wait + Clock + Sync, S: Store + Drop + Send + 'static, L: Drop>(
+    rt: &R,
+    server: Server<S, L>,
+) -> Result<Ran<S, LogError, L>, RunError> {
+    server.run(rt, 1, &Leveling)
 }
 
 /// What a run tells.
@@ -329,6 +340,7 @@ fn told_by<R: Host>(
     match ask {
         Ask::Run(threads, work) => told_of(alloc, ran(rt, server, threads, work)),
         Ask::Ways => told_of(alloc, ran_in_ways(rt, server)),
+        Ask::Levels => told_of(alloc, ran_at_levels(rt, server)),
         Ask::Hold | Ask::Over => held(rt, alloc, server, document, folder),
         Ask::Print => match printed(rt, alloc, server) {
             Ok(text) => Told::Printed(text),

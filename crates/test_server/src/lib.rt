@@ -2,13 +2,18 @@
 //!
 //! Files and the small configuration are of `test_runs`. Read `works.rt` (what a caller is told of its works), `asks.rt` (what a server is
 //! asked, and what it tells), `answers.rt` (whether that is what it is to tell), `places.rt` (folders, and what is none), and
-//! `server_tests.rt`, whose tests loop over rows of these; `time_tests.rt` has the times of messages.
+//! `server_tests.rt`, whose tests loop over rows of these; `time_tests.rt` has the times of messages, and `level_tests.rt`, over `leveling.rt`,
+//! the levels of loggers.
 #![tactic(auto)]
 
 #[cfg(test)]
 mod answers;
 #[cfg(test)]
 mod asks;
+#[cfg(test)]
+mod level_tests;
+#[cfg(test)]
+mod leveling;
 #[cfg(test)]
 mod places;
 #[cfg(test)]
