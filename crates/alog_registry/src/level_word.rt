@@ -3,6 +3,7 @@ ghost use Rattle.std.specs.Prelude.{◌≡◌, ◌<◌};
 ghost use Rattle.alog_msg.specs.Level.{row_of};
 
 use alog_msg::Level;
+use crossbeam_utils::CachePadded;
 use std::sync::atomic::Ordering::SeqCst;
 use std::sync::atomic::{AtomicIn, Rule};
 
@@ -13,16 +14,17 @@ impl Rule for IsLevel {
     ghost invariant = { λ n. n < 7 };
 }
 
-/// One word that always is a level. Whoever reads it knows no more of it.
+/// One word that always is a level. Whoever reads it knows no more of it. Each log reads it, so nothing that a thread writes lies
+/// on its line of the cache: beside a worker's counts it took a log from one processor to the other and back.
 #[derive(Drop)]
 pub(crate) struct LevelWord {
-    word: AtomicIn<IsLevel>,
+    word: CachePadded<AtomicIn<IsLevel>>,
 }
 
 impl LevelWord {
     pub(crate) fn new(level: Level) -> LevelWord {
         LevelWord {
-            word: AtomicIn::new(u64::from(level.number())),
+            word: CachePadded::new(AtomicIn::new(u64::from(level.number()))),
         }
     }
 
