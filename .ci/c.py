@@ -28,9 +28,13 @@ THREADS = ["-O1", "-g", "-fsanitize=thread"]
 COMPILERS = {"gcc": "g++", "clang": "clang++"}
 WRAPPED = "-Wl,--wrap=malloc,--wrap=realloc,--wrap=free"
 CALLS = "-Wl,--wrap=write,--wrap=openat,--wrap=renameat,--wrap=unlinkat,--wrap=fdatasync,--wrap=fsync,--wrap=close,--wrap=alog_c_take"
-# where spdlog is, whose programs are left out where it is not there, and what its library wants, which is compiled faster than its headers
-SPDLOG = "/usr/include/spdlog/spdlog.h"
+# where spdlog and fmt are, whose programs are left out where they are not there, and what their libraries want, which are compiled faster than
+# their headers
+SPDLOG, FMT = "/usr/include/spdlog/spdlog.h", "/usr/include/fmt/format.h"
 SPDLOG_FLAGS, SPDLOG_LIBRARIES = ["-std=c++11", "-DSPDLOG_SHARED_LIB", "-DSPDLOG_COMPILED_LIB", "-DSPDLOG_FMT_EXTERNAL"], ["-lspdlog", "-lfmt"]
+FMT_FLAGS, FMT_LIBRARIES = ["-std=c++11"], ["-lfmt"]
+# the tests in C++, each with what it needs
+FRONT_ENDS = [("sink", SPDLOG, SPDLOG_FLAGS, SPDLOG_LIBRARIES), ("fmt", FMT, FMT_FLAGS, FMT_LIBRARIES)]
 # the programs, the words of their runs behind the folder, and what each is linked with beside the library
 Program = collections.namedtuple("Program", "name runs flags has_threads")
 MILLIONS = [["1", "block", "8192"], ["2", "block", "8192"], ["2", "block", "64"], ["2", "discard_new", "64"], ["2", "overrun_oldest", "64"]]
@@ -53,12 +57,18 @@ PROGRAMS = [
 ENDS = re.compile(r"(\d+) passed, (\d+) failed")
 # what clang's instructions call for blocks of memory, which the sanitizers of older compilers lack
 SHIM = """#include <string.h>
+#ifdef __cplusplus
+extern "C" {
+#endif
 void *__tsan_memcpy(void *to, const void *from, size_t size);
 void *__tsan_memmove(void *to, const void *from, size_t size);
 void *__tsan_memset(void *to, int byte, size_t size);
 void *__tsan_memcpy(void *to, const void *from, size_t size) { return memcpy(to, from, size); }
 void *__tsan_memmove(void *to, const void *from, size_t size) { return memmove(to, from, size); }
 void *__tsan_memset(void *to, int byte, size_t size) { return memset(to, byte, size); }
+#ifdef __cplusplus
+}
+#endif
 """
 
 
@@ -129,14 +139,15 @@ def compiled(compiler, source, to, flags, archives, count):
 
 
 def check_headers(compiler, room, count):
-    """Compiles each header alone, in each language."""
-    for header in ("alog.h", "alog_host.h"):
+    """Compiles each header alone, in each language that it is for."""
+    over = [header for header, needed in (("alog_fmt.h", FMT), ("alog_spdlog.h", SPDLOG)) if os.path.exists(needed)]
+    for header in ("alog.h", "alog_host.h", "alog_clients.h", *over):
         source = f"{room}/header.c"
         with open(source, "w", encoding="utf-8") as it:
             it.write(f'#include "{header}"\nint main(void) {{ return alog_says(ALOG_DONE)[0] == 0; }}\n')
         for language, more, standards in (
-            (compiler, ["-D_POSIX_C_SOURCE=200809L"], ["c99", "c11", "gnu17"]),
-            (COMPILERS[compiler], ["-x", "c++", "-Wold-style-cast"], ["c++11", "c++17", "c++20"]),
+            (compiler, ["-D_POSIX_C_SOURCE=200809L"], ["c99", "c11", "gnu17"] if header in ("alog.h", "alog_host.h") else []),
+            (COMPILERS[compiler], ["-x", "c++", "-Wold-style-cast", "-DSPDLOG_FMT_EXTERNAL"], ["c++11", "c++17", "c++20"]),
         ):
             for standard in standards:
                 words = [language, f"-std={standard}", *WARNINGS, *more, "-fsyntax-only", f"-I{HEADERS}", source]
@@ -161,11 +172,21 @@ def run_program(it, path, room, count, seconds):
             count.ended(" ".join([path, *words]), run([path, folder, *words], seconds))
 
 
-def check_sink(compiler, archives, flags, name, room, count, seconds):
-    """Runs the test of the sink for spdlog, where that is there."""
-    path = f"{room}/{compiler}-{name}-sink"
-    if os.path.exists(SPDLOG) and compiled(COMPILERS[compiler], f"{TESTS}/sink.cpp", path, [*SPDLOG_FLAGS, *flags], [*archives, *SPDLOG_LIBRARIES], count):
-        run_program(Program("sink", [[]], [], True), path, room, count, seconds)
+def check_front_ends(compiler, archives, flags, name, room, count, seconds):
+    """Runs the tests of the sink for spdlog and of the loggers over fmt, where these are there."""
+    for test, needed, own, libraries in FRONT_ENDS:
+        path = f"{room}/{compiler}-{name}-{test}"
+        if os.path.exists(needed) and compiled(COMPILERS[compiler], f"{TESTS}/{test}.cpp", path, [*own, *flags], [*archives, *libraries], count):
+            run_program(Program(test, [[]], [], True), path, room, count, seconds)
+
+
+def check_formats(compiler, room, count):
+    """A text that its values do not fit is refused by the compiler, in C++20."""
+    for call, is_well in (('info("{} {}", 1, 2)', True), ('info("{} {}", 1)', False), ('log(ALOG_HERE, ALOG_INFO, "{:d}", "a")', False)) if os.path.exists(FMT) else ():
+        with open(f"{room}/formats.cpp", "w", encoding="utf-8") as it:
+            it.write(f'#include "alog_fmt.h"\nvoid some(const alog::logger &net);\nvoid some(const alog::logger &net) {{ net.{call}; }}\n')
+        ran = run([COMPILERS[compiler], "-std=c++20", *WARNINGS, "-fsyntax-only", f"-I{HEADERS}", f"{room}/formats.cpp"], SECONDS)
+        count.note((ran.returncode == 0) == is_well, f"{compiler}: {call}: {ran.stderr[-4000:]}")
 
 
 def check_examples(compiler, archives, flags, room, count):
@@ -173,6 +194,8 @@ def check_examples(compiler, archives, flags, room, count):
     examples = [("server.c", compiler, ["-std=gnu11"], []), ("server.cpp", COMPILERS[compiler], ["-std=c++11"], [])]
     if os.path.exists(SPDLOG):
         examples.append(("spdlog.cpp", COMPILERS[compiler], SPDLOG_FLAGS, SPDLOG_LIBRARIES))
+    if os.path.exists(FMT):
+        examples.append(("fmt.cpp", COMPILERS[compiler], FMT_FLAGS, FMT_LIBRARIES))
     for source, language, own, libraries in examples:
         path = f"{room}/example"
         if not compiled(language, f"{EXAMPLES}/{source}", path, [*own, *flags], [*archives, *libraries], count):
@@ -187,21 +210,24 @@ def check_examples(compiler, archives, flags, room, count):
             count.note(ran.returncode == 1 and ran.stdout == "" and "no configuration" in ran.stderr, f"{source} without a configuration: {ran}")
 
 
-def block_of(language):
-    """Returns the first block in this language of the document for users."""
-    return re.search(rf"^```{language}\n(.*?)^```$", read(DOCUMENT), re.M | re.S)[1]
+def blocks_of(language):
+    """Returns the blocks in this language of the document for users."""
+    return re.findall(rf"^```{language}\n(.*?)^```$", read(DOCUMENT), re.M | re.S)
 
 
 def check_document(compiler, archives, room, count):
     """Compiles and runs the programs that the document shows, from the start and once more over the files that are there."""
-    shown = [("c", compiler, ["-std=c99"], [], "handled 2000 of 2000\n", 2000)]
+    over_fmt, over_spdlog = blocks_of("cpp")
+    shown = [("c", blocks_of("c")[0], compiler, ["-std=c99"], [], "handled 2000 of 2000\n", 2000)]
+    if os.path.exists(FMT):
+        shown.append(("cpp", over_fmt, COMPILERS[compiler], FMT_FLAGS, FMT_LIBRARIES, "", 1))
     if os.path.exists(SPDLOG):
-        shown.append(("cpp", COMPILERS[compiler], SPDLOG_FLAGS, SPDLOG_LIBRARIES, "", 1))
-    for language, it, flags, libraries, wanted, lines in shown:
+        shown.append(("cpp", over_spdlog, COMPILERS[compiler], SPDLOG_FLAGS, SPDLOG_LIBRARIES, "", 1))
+    for language, text, it, flags, libraries, wanted, lines in shown:
         with tempfile.TemporaryDirectory(dir=room) as folder:
             os.mkdir(f"{folder}/logs")
             with open(f"{folder}/shown.{language}", "w", encoding="utf-8") as source:
-                source.write(block_of(language))
+                source.write(text)
             if not compiled(it, f"{folder}/shown.{language}", f"{folder}/shown", flags, [*archives, *libraries], count):
                 continue
             for times in (1, 2):
@@ -251,13 +277,15 @@ def read(path):
 
 def check_threads(compiler, archives, room, count):
     """Runs the programs with threads under a thread sanitizer, which sees both sides, and one that it must refuse."""
-    with open(f"{room}/shim.c", "w", encoding="utf-8") as it:
-        it.write(SHIM)
+    for shim in ("shim.c", "shim.cpp"):
+        with open(f"{room}/{shim}", "w", encoding="utf-8") as it:
+            it.write(SHIM)
     flags = ["-std=gnu11", *THREADS, f"{room}/shim.c"]
     for it in (it for it in PROGRAMS if it.has_threads):
         path = f"{room}/{compiler}-threads-{it.name}"
         if compiled(compiler, f"{TESTS}/{it.name}.c", path, [*flags, *it.flags], archives, count):
             run_program(it, path, room, count, SANITIZED_SECONDS)
+    check_front_ends(compiler, archives, [*THREADS, f"{room}/shim.cpp"], "threads", room, count, SANITIZED_SECONDS)
     path = f"{room}/{compiler}-misuse"
     if compiled(compiler, f"{TESTS}/misuse.c", path, flags, archives, count):
         with tempfile.TemporaryDirectory(dir=room) as folder:
@@ -271,6 +299,7 @@ def check(compiler, home, room, count):
     archives = [f"{home}/libalog_c.a", *rest]
     check_headers(compiler, room, count)
     check_kinds(compiler, room, count)
+    check_formats(compiler, room, count)
     check_makefile(compiler, home, room, count)
     check_document(compiler, archives, room, count)
     for name, flags, seconds in (("plain", ["-O2"], SECONDS), ("addresses", ADDRESSES, SANITIZED_SECONDS)):
@@ -278,7 +307,7 @@ def check(compiler, home, room, count):
             path = f"{room}/{compiler}-{name}-{it.name}"
             if compiled(compiler, f"{TESTS}/{it.name}.c", path, ["-std=gnu11", *flags, *it.flags], archives, count):
                 run_program(it, path, room, count, seconds)
-        check_sink(compiler, archives, flags, name, room, count, seconds)
+        check_front_ends(compiler, archives, flags, name, room, count, seconds)
         check_examples(compiler, archives, flags, room, count)
         print(f"c: {compiler}, {name}: {count.passed} passed, {count.failed} failed so far", flush=True)
     if os.path.exists(f"{home}/libalog_c_tsan.a"):

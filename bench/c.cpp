@@ -1,7 +1,8 @@
-// One program that logs by spdlog's calls, from one or more threads, through spdlog's own asynchronous logger, through alog's sink, or, by `none`,
-// to a sink that drops what it gets:
-//   c spdlog|alog|none FOLDER THREADS rate     how many messages go in a second, from the first log to the last line in the file
-//   c spdlog|alog|none FOLDER THREADS times    the 50th, 99th and 99.9th percentile of the nanoseconds that one log takes
+// One program that logs, from one or more threads, by spdlog's calls through spdlog's own asynchronous logger, through alog's sink, or, by `none`,
+// to a sink that drops what it gets; or, by `fmt`, by alog's logger over fmt:
+//   c spdlog|alog|none|fmt FOLDER THREADS rate     how many messages go in a second, from the first log to the last line in the file
+//   c spdlog|alog|none|fmt FOLDER THREADS times    the 50th, 99th and 99.9th percentile of the nanoseconds that one log takes
+#include "alog_fmt.h"
 #include "alog_spdlog.h"
 
 #include <algorithm>
@@ -9,6 +10,7 @@
 #include <cstdint>
 #include <cstdio>
 #include <memory>
+#include <stdexcept>
 #include <string>
 #include <thread>
 #include <vector>
@@ -26,53 +28,37 @@ constexpr std::size_t places = 8192;
 constexpr int each = 250000;
 constexpr char pattern[] = "[%Y-%m-%d %H:%M:%S.%e] [%n] [%l] %v";
 
-// Where messages go, until it is ended and all lines are in the file.
-struct Backend {
-    std::shared_ptr<spdlog::logger> logger;
-    std::shared_ptr<alog::host> host;
-
-    void end() {
-        logger.reset();
-        spdlog::shutdown();
-        if (host == nullptr)
-            return;
-        const alog_report report = host->stop();
-        if (report.handled != report.asked || report.faults != 0 || host->failures() != 0)
-            throw spdlog::spdlog_ex("c: not all lines were written");
-    }
-};
-
 // spdlog's asynchronous logger, with one thread and the policy that blocks.
-Backend by_spdlog(const std::string &folder) {
+std::shared_ptr<spdlog::logger> by_spdlog(const std::string &folder) {
     spdlog::init_thread_pool(places, 1);
     auto logger = spdlog::create_async<spdlog::sinks::basic_file_sink_mt>("server", folder + "/log.txt", true);
     logger->set_pattern(pattern, spdlog::pattern_time_type::utc);
-    return {logger, nullptr};
+    return logger;
 }
 
 // alog with one worker, and its policy that blocks.
-Backend by_alog(const std::string &folder) {
+std::shared_ptr<alog::host> started(const std::string &folder) {
     const std::string document = "queue = " + std::to_string(places) + "\n[[sink]]\nname = \"file\"\nkind = \"memory\"\nfile = \"log.txt\"\npattern = \"" +
                                  pattern + "\"\n[[logger]]\nname = \"server\"\nsinks = [\"file\"]\n";
-    const auto host = alog::make_host(document, folder, 1);
-    return {alog::make_logger(host, "server"), host};
+    return alog::make_host(document, folder, 1);
+}
+
+// Ends it, when all lines are in the file.
+void end(alog::host &host) {
+    const alog_report report = host.stop();
+    if (report.handled != report.asked || report.faults != 0 || host.failures() != 0 || host.refused() != 0)
+        throw std::runtime_error("not all lines were written");
 }
 
 // The front end alone, which is the same in front of both: the text, the time and the level of each message, which then goes nowhere.
-Backend by_none() { return {std::make_shared<spdlog::logger>("server", std::make_shared<spdlog::sinks::null_sink_st>()), nullptr}; }
+std::shared_ptr<spdlog::logger> by_none() { return std::make_shared<spdlog::logger>("server", std::make_shared<spdlog::sinks::null_sink_st>()); }
 
-Backend backend(const std::string &by, const std::string &folder) {
-    if (by == "none")
-        return by_none();
-    return by == "alog" ? by_alog(folder) : by_spdlog(folder);
-}
-
-void log_all(spdlog::logger &logger, int thread) {
+template <typename Logger> void log_all(Logger &logger, int thread) {
     for (int i = 0; i < each; i++)
         logger.info("request {} of client {} served by worker {} in {} microseconds", i, i % 100, thread, 861);
 }
 
-void log_timed(spdlog::logger &logger, int thread, std::vector<std::int64_t> &times) {
+template <typename Logger> void log_timed(Logger &logger, int thread, std::vector<std::int64_t> &times) {
     for (int i = 0; i < each; i++) {
         const auto start = Clock::now();
         logger.info("request {} of client {} served by worker {} in {} microseconds", i, i % 100, thread, 861);
@@ -91,8 +77,8 @@ void print_times(const std::vector<std::vector<std::int64_t>> &times) {
     std::puts("");
 }
 
-int run(const std::string &by, const std::string &folder, std::size_t count, bool timed) {
-    Backend to = backend(by, folder);
+// Logs by so many threads to this, ends what is behind it, and prints what was measured.
+template <typename Logger, typename End> void run(std::shared_ptr<Logger> to, std::size_t count, bool timed, End end) {
     std::vector<std::vector<std::int64_t>> times(count);
     for (auto &own : times)
         own.reserve(timed ? each : 0);
@@ -101,31 +87,43 @@ int run(const std::string &by, const std::string &folder, std::size_t count, boo
     for (std::size_t number = 0; number < count; number++)
         threads.emplace_back([&to, &times, number, timed] {
             if (timed)
-                log_timed(*to.logger, static_cast<int>(number), times[number]);
+                log_timed(*to, static_cast<int>(number), times[number]);
             else
-                log_all(*to.logger, static_cast<int>(number));
+                log_all(*to, static_cast<int>(number));
         });
     for (std::thread &it : threads)
         it.join();
-    to.end();
+    to.reset();
+    end();
     const std::chrono::duration<double> seconds = Clock::now() - start;
     if (timed)
         print_times(times);
     else
         std::printf("%.0f\n", static_cast<double>(count) * each / seconds.count());
-    return 0;
+}
+
+void run_by(const std::string &by, const std::string &folder, std::size_t count, bool timed) {
+    if (by == "spdlog")
+        return run(by_spdlog(folder), count, timed, [] { spdlog::shutdown(); });
+    if (by == "none")
+        return run(by_none(), count, timed, [] {});
+    const auto host = started(folder);
+    if (by == "fmt")
+        return run(std::make_shared<const alog::logger>(host, "server"), count, timed, [&host] { end(*host); });
+    run(alog::make_logger(host, "server"), count, timed, [&host] { end(*host); });
 }
 
 } // namespace
 
 int main(int argc, char **argv) try {
     const std::vector<std::string> words(argv + 1, argv + argc);
-    const bool known = words.size() == 4 && (words[0] == "spdlog" || words[0] == "alog" || words[0] == "none");
+    const bool known = words.size() == 4 && (words[0] == "spdlog" || words[0] == "alog" || words[0] == "none" || words[0] == "fmt");
     if (!known || (words[3] != "rate" && words[3] != "times")) {
-        std::fputs("c: wanted are spdlog, alog or none, a folder, a number of threads, and rate or times\n", stderr);
+        std::fputs("c: wanted are spdlog, alog, none or fmt, a folder, a number of threads, and rate or times\n", stderr);
         return 1;
     }
-    return run(words[0], words[1], std::stoul(words[2]), words[3] == "times");
+    run_by(words[0], words[1], std::stoul(words[2]), words[3] == "times");
+    return 0;
 } catch (const std::exception &error) {
     std::fprintf(stderr, "c: %s\n", error.what());
     return 1;

@@ -32,7 +32,7 @@ int main(int argc, char **argv) try {
     std::cout << "asked " << report.asked << "\nposted " << report.posted << "\ndiscarded " << report.discarded << "\noverrun " << report.overrun
               << "\nhandled " << report.handled << "\nfaults " << report.faults << "\nfailures " << host->failures() << '\n';
     return report.faults == 0 && host->refused() == 0 && host->failures() == 0 ? 0 : 1;
-} catch (const spdlog::spdlog_ex &error) {
+} catch (const alog::error &error) {
     std::cerr << "spdlog: " << error.what() << '\n';
     return 1;
 }

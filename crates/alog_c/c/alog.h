@@ -202,6 +202,7 @@ uint32_t alog_c_producer(alog_pool *pool, alog_producer *producer);
 uint32_t alog_c_worker(alog_pool *pool, alog_worker *worker);
 uint32_t alog_c_find(void *at, const char *name, size_t name_length, uint32_t *logger);
 uint32_t alog_c_set_level(void *at, uint32_t logger, uint32_t level);
+uint32_t alog_c_is_on(void *at, uint32_t logger, uint32_t level);
 uint32_t alog_c_log(alog_producer *producer, uint32_t logger, uint32_t level, int64_t time, const char *text, size_t length,
                     uint64_t *ticket);
 uint32_t alog_c_log_source(alog_producer *producer, uint32_t logger, uint32_t level, int64_t time, const char *text, size_t length,
@@ -299,6 +300,19 @@ static inline enum alog_answer alog_set_level(alog_producer *producer, uint32_t 
 static inline enum alog_answer alog_set_level_in_pool(alog_pool *pool, uint32_t logger, enum alog_level level)
 {
     return pool == NULL ? ALOG_NULL : alog_answer_of(alog_c_set_level(pool, logger, level));
+}
+
+/* Asks whether a logger reads a message of this level: ALOG_DONE where its own level, as it is now, lets it through, or where it has a backtrace,
+   which keeps it; ALOG_FILTERED where a log of it would be filtered, whatever its text, which need not be made then. */
+static inline enum alog_answer alog_is_on(alog_producer *producer, uint32_t logger, enum alog_level level)
+{
+    return producer == NULL ? ALOG_NULL : alog_answer_of(alog_c_is_on(producer, logger, level));
+}
+
+/* Asks it by the pool. */
+static inline enum alog_answer alog_is_on_in_pool(alog_pool *pool, uint32_t logger, enum alog_level level)
+{
+    return pool == NULL ? ALOG_NULL : alog_answer_of(alog_c_is_on(pool, logger, level));
 }
 
 /* Logs a text of so many bytes in UTF-8, which may have zeros in it, at a time in nanoseconds since 1970, UTC. Its bytes are copied. Where
@@ -418,7 +432,7 @@ static inline const char *alog_says(enum alog_answer answer)
     case ALOG_PARTS_OUT: return "Not all producers and workers were given back.";
     case ALOG_BAD_CONFIG: return "The document is no configuration.";
     case ALOG_NO_STORE: return "The folder takes no files, or another program holds it, or a sink cannot write to its file.";
-    case ALOG_TOO_SHORT: return "The memory that was handed over is too short.";
+    case ALOG_TOO_SHORT: return "The memory that was handed over is too short, or the areas are too few.";
     case ALOG_BUSY_PART: return "Another thread gives a part back: try again.";
     }
     return "There is no such answer.";

@@ -11,8 +11,9 @@
        alog_report report;
        alog_stop(&host, &report);
 
-   A host and a client are all zero before, do not move while they are in use, and a client is used by one thread at a time. What each call
-   answers is in alog.h. POSIX threads, gcc or clang; a program in C says _POSIX_C_SOURCE 200809L before its first include, or is compiled
+   A host and a client are all zero before, do not move while they are in use, and a client is used by one thread at a time, which best has it
+   on its own stack: each call writes into it, so two on one line of the cache slow each other down. What each call answers is in alog.h.
+   POSIX threads, gcc or clang; a program in C says _POSIX_C_SOURCE 200809L before its first include, or is compiled
    for gnu99 or later. A process that forks starts its host in the child.
 
    No call is made from a handler of a signal, no thread is cancelled within a call, and a child of a fork uses no host of its parent: it has
@@ -88,6 +89,8 @@ static inline enum alog_answer alog_seat_work(alog_seat *seat)
     size_t ended = 0;
     const enum alog_answer answer = alog_work(&seat->worker, seat->host->batch, &ended);
     seat->ended += ended;
+    if (ended > 0)
+        seat->spins = 0;
     if (answer != ALOG_DONE || seat->ended >= seat->host->ring_behind) {
         alog_bell_ring(&seat->host->room, UINT32_MAX);
         seat->ended = 0;
@@ -96,19 +99,7 @@ static inline enum alog_answer alog_seat_work(alog_seat *seat)
     return answer;
 }
 
-/* Makes room for others: it yields, and behind many yields in a row it rests. */
-static inline void alog_seat_rest(unsigned *yields)
-{
-    struct timespec rest = {0, ALOG_REST};
-    if (*yields < ALOG_YIELDS) {
-        ++*yields;
-        sched_yield();
-    } else {
-        nanosleep(&rest, NULL);
-    }
-}
-
-/* What a worker's thread does: it works, and sleeps when there is nothing, until its host ends. */
+/* What a worker's thread does: it works, and sleeps when there is nothing and nothing comes soon, until its host ends. */
 static inline void *alog_seat_run(void *at)
 {
     alog_seat *seat = ALOG_CAST(alog_seat *, at);
@@ -122,7 +113,7 @@ static inline void *alog_seat_run(void *at)
             continue;
         }
         yields = 0;
-        if (answer == ALOG_DONE)
+        if (answer == ALOG_DONE || alog_seat_spins(seat))
             continue;
         alog_bell_enter(bell);
         is_ending = __atomic_load_n(&seat->host->is_ending, __ATOMIC_SEQ_CST);
@@ -157,6 +148,7 @@ static inline enum alog_answer alog_seat_start(alog_host *host, alog_seat *seat)
         return answer;
     seat->host = host;
     seat->ended = 0;
+    seat->spins = 0;
     alog_signals_of_worker(&back);
     pthread_sigmask(SIG_SETMASK, &back, &before);
     failed = pthread_create(&seat->thread, NULL, alog_seat_run, seat);
@@ -431,14 +423,16 @@ static inline enum alog_answer alog_log_wait(alog_client *client, uint32_t logge
 
 /* Logs a text that is formatted as vprintf does, by the thread's locale, at the time of the call, and waits for room. It is not cut:
    ALOG_TEXT_TOO_LONG where it has more bytes than the key `text` of the configuration says, which are 2,048 where it does not. ALOG_NOT_UTF8
-   where it cannot be formatted, or what comes out is no UTF-8. It is formatted whatever the level of its logger. */
+   where it cannot be formatted, or what comes out is no UTF-8. What its logger does not
+   read, since its level hides it and no backtrace keeps it, is not formatted. */
 ALOG_PRINTS(4, 0)
 static inline enum alog_answer alog_vprintf(alog_client *client, uint32_t logger, enum alog_level level, const char *format, va_list values)
 {
     char text[ALOG_TEXT_MAX + 1];
     int length;
-    if (client == NULL || format == NULL)
-        return ALOG_NULL;
+    const enum alog_answer answer = client == NULL || format == NULL ? ALOG_NULL : alog_is_on(&client->producer, logger, level);
+    if (answer != ALOG_DONE)
+        return answer;
     length = vsnprintf(text, sizeof text, format, values);
     if (length < 0)
         return errno == EOVERFLOW ? ALOG_TEXT_TOO_LONG : ALOG_NOT_UTF8;

@@ -31,6 +31,13 @@
 #define ALOG_PRINTS(words, values)
 #endif
 
+/* tells the processor that a thread only waits (the library is for x86-64) */
+#ifdef __x86_64__
+#define ALOG_PAUSE() __builtin_ia32_pause()
+#else
+#define ALOG_PAUSE() ((void)0)
+#endif
+
 #ifdef __cplusplus
 extern "C" {
 #endif
@@ -45,6 +52,9 @@ enum { ALOG_BATCH = 16, ALOG_ROOM = 2048 };
 
 /* How often a log is tried, and a worker yields, before they rest, and the nanoseconds that a worker rests which waits for another. */
 enum { ALOG_TRIES = 8, ALOG_YIELDS = 64, ALOG_REST = 100000 };
+
+/* How often a worker spins that finds nothing, before it sleeps, and for how many pauses of the processor, which are one to three microseconds. */
+enum { ALOG_SPINS = 4, ALOG_PAUSES = 64 };
 
 /* The file by which a folder is held, which no sink may have, and the longest name that a configuration gives a file. */
 #define ALOG_LOCK ".alog.lock"
@@ -77,8 +87,9 @@ typedef struct alog_seat {
     struct alog_host *host;
     alog_worker worker;
     pthread_t thread;
-    /* how many messages it ended since it rang for room */
+    /* how many messages it ended since it rang for room, and how often it spun since it ended one */
     size_t ended;
+    unsigned spins;
 } alog_seat;
 
 /* A file that is open, where its name has some bytes, when it was used last, and whether something was written that was not brought to the
@@ -214,6 +225,32 @@ static inline void alog_bell_ring(alog_bell *bell, uint32_t most)
     else if (count > 1)
         pthread_cond_broadcast(&bell->rung);
     pthread_mutex_unlock(&bell->lock);
+}
+
+/* Makes room for others: it yields, and behind many yields in a row it rests. */
+static inline void alog_seat_rest(unsigned *yields)
+{
+    struct timespec rest = {0, ALOG_REST};
+    if (*yields < ALOG_YIELDS) {
+        ++*yields;
+        sched_yield();
+    } else {
+        nanosleep(&rest, NULL);
+    }
+}
+
+/* Lets a worker that found nothing spin, in place of sleeping, as long as it may: while messages come in a row the next ones come meanwhile, and
+   whoever logs them need not wake it, which would take a call of the system each time. Answers 0 where it is to sleep. */
+static inline int alog_seat_spins(alog_seat *seat)
+{
+    const unsigned most = ALOG_SPINS;
+    int pauses;
+    if (seat->spins == most)
+        return 0;
+    seat->spins++;
+    for (pauses = 0; pauses < ALOG_PAUSES; pauses++)
+        ALOG_PAUSE();
+    return 1;
 }
 
 #ifdef __cplusplus

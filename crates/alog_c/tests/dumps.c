@@ -30,6 +30,8 @@ static void dump_once(void)
     size_t posts = 99;
     EXPECT(alog_dump(&producer, 0, 9 * second, &posts), ALOG_DONE);
     EXPECT(posts, 0);
+    /* (it is on for what it hides, and keeps) */
+    EXPECT(alog_is_on(&producer, 0, ALOG_TRACE), ALOG_DONE);
     EXPECT(alog_log(&producer, 0, ALOG_DEBUG, 2 * second, "one", 3, NULL), ALOG_FILTERED);
     EXPECT(alog_log(&producer, 0, ALOG_DEBUG, 3 * second, "two", 3, NULL), ALOG_FILTERED);
     EXPECT(alog_log(&producer, 0, ALOG_INFO, 4 * second, "three", 5, NULL), ALOG_DONE);

@@ -230,6 +230,7 @@ static void prints(const char *folder)
     static char text[2 * ALOG_TEXT_MAX];
     const char *none = NULL;
     const wint_t no_letter = 0x7fffffff;
+    int formatted = 7;
     enter(folder, "prints");
     start(config);
     EXPECT(alog_printf(&client, 0, ALOG_WARNING, "%s %d of %zu%%", "seven", -7, (size_t)100), ALOG_DONE);
@@ -237,7 +238,8 @@ static void prints(const char *folder)
     EXPECT(alog_printf(&client, 0, ALOG_INFO, "%0*d", ALOG_TEXT_MAX + 1, 0), ALOG_TEXT_TOO_LONG);
     EXPECT(alog_printf(&client, 0, ALOG_INFO, "%lc", no_letter), ALOG_NOT_UTF8);
     EXPECT(alog_printf(&client, 0, ALOG_INFO, "%s", "\xff"), ALOG_NOT_UTF8);
-    EXPECT(alog_printf(&client, 0, ALOG_DEBUG, "%d", 1), ALOG_FILTERED);
+    EXPECT(alog_printf(&client, 0, ALOG_DEBUG, "%d%n", 1, &formatted), ALOG_FILTERED);
+    EXPECT(formatted, 7);
     EXPECT(alog_printf(&client, 1, ALOG_INFO, "%d", 1), ALOG_NO_LOGGER);
     EXPECT(alog_printf(NULL, 0, ALOG_INFO, "%d", 1), ALOG_NULL);
     EXPECT(alog_printf(&client, 0, ALOG_INFO, none, 1), ALOG_NULL);

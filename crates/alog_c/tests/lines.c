@@ -38,12 +38,17 @@ static void log_some(void)
     EXPECT(ticket, 0);
     EXPECT(alog_log(&producer, net, ALOG_DEBUG, 0, "hidden", 6, &ticket), ALOG_FILTERED);
     EXPECT(ticket, 0);
+    EXPECT(alog_is_on(&producer, net, ALOG_DEBUG), ALOG_FILTERED);
     EXPECT(alog_set_level(&producer, net, ALOG_DEBUG), ALOG_DONE);
+    EXPECT(alog_is_on_in_pool(&pool, net, ALOG_DEBUG), ALOG_DONE);
+    EXPECT(alog_is_on(&producer, net, ALOG_TRACE), ALOG_FILTERED);
     EXPECT(alog_log(&producer, net, ALOG_DEBUG, -1, "two", 3, &ticket), ALOG_DONE);
     EXPECT(ticket, 1);
     EXPECT(alog_log_source(&producer, net, ALOG_ERROR, 6 * second, "\xc3\xbc", 2, &source, &ticket), ALOG_DONE);
     EXPECT(ticket, 2);
     EXPECT(alog_set_level_in_pool(&pool, disk, ALOG_CRITICAL), ALOG_DONE);
+    EXPECT(alog_is_on(&producer, disk, ALOG_ERROR), ALOG_FILTERED);
+    EXPECT(alog_is_on_in_pool(&pool, disk, ALOG_OFF), ALOG_DONE);
     EXPECT(alog_log(&producer, disk, ALOG_ERROR, 0, "hidden", 6, NULL), ALOG_FILTERED);
     EXPECT(alog_log(&producer, disk, ALOG_CRITICAL, 0, NULL, 0, NULL), ALOG_DONE);
     EXPECT(alog_log(&producer, net, ALOG_INFO, 0, sixty_five, 65, NULL), ALOG_TEXT_TOO_LONG);

@@ -78,6 +78,8 @@ static void nulls(void)
     EXPECT(alog_find_in_pool(NULL, "net", &number), ALOG_NULL);
     EXPECT(alog_set_level(NULL, 0, ALOG_INFO), ALOG_NULL);
     EXPECT(alog_set_level_in_pool(NULL, 0, ALOG_INFO), ALOG_NULL);
+    EXPECT(alog_is_on(NULL, 0, ALOG_INFO), ALOG_NULL);
+    EXPECT(alog_is_on_in_pool(NULL, 0, ALOG_INFO), ALOG_NULL);
     EXPECT(alog_log(NULL, 0, ALOG_INFO, 0, "x", 1, NULL), ALOG_NULL);
     EXPECT(alog_log(&producer, 0, ALOG_INFO, 0, NULL, 1, NULL), ALOG_NULL);
     EXPECT(alog_log_source(&producer, 0, ALOG_INFO, 0, "x", 1, NULL, NULL), ALOG_NULL);
@@ -100,6 +102,8 @@ static void empty_handles(void)
     EXPECT(alog_find(&producer, "net", &number), ALOG_NO_HANDLE);
     EXPECT(alog_find_in_pool(&pool, "net", &number), ALOG_NO_HANDLE);
     EXPECT(alog_set_level(&producer, 0, ALOG_INFO), ALOG_NO_HANDLE);
+    EXPECT(alog_is_on(&producer, 0, ALOG_INFO), ALOG_NO_HANDLE);
+    EXPECT(alog_is_on_in_pool(&pool, 0, ALOG_INFO), ALOG_NO_HANDLE);
     EXPECT(alog_log(&producer, 0, ALOG_INFO, 0, "x", 1, NULL), ALOG_NO_HANDLE);
     EXPECT(alog_flush(&producer, 0, NULL), ALOG_NO_HANDLE);
     EXPECT(alog_dump(&producer, 0, 0, NULL), ALOG_NO_HANDLE);
@@ -131,6 +135,7 @@ static void founds(void)
     EXPECT(alog_make_producer(as_pool(&files), &producer), ALOG_WRONG_HANDLE);
     EXPECT(alog_find_in_pool(as_pool(&files), "net", &number), ALOG_WRONG_HANDLE);
     EXPECT(alog_set_level_in_pool(as_pool(&files), 0, ALOG_INFO), ALOG_WRONG_HANDLE);
+    EXPECT(alog_is_on_in_pool(as_pool(&files), 0, ALOG_INFO), ALOG_WRONG_HANDLE);
     EXPECT(alog_log(as_producer(&files), 0, ALOG_INFO, 0, "x", 1, NULL), ALOG_WRONG_HANDLE);
     EXPECT(alog_work(as_worker(&files), 1, NULL), ALOG_WRONG_HANDLE);
     EXPECT(files.kind, 4);
@@ -227,6 +232,8 @@ static void wrong_handles(void)
     EXPECT(alog_find(as_producer(&files), "net", &number), ALOG_WRONG_HANDLE);
     EXPECT(alog_set_level(as_producer(&worker), 0, ALOG_INFO), ALOG_WRONG_HANDLE);
     EXPECT(alog_set_level(as_producer(&files), 0, ALOG_INFO), ALOG_WRONG_HANDLE);
+    EXPECT(alog_is_on(as_producer(&worker), 0, ALOG_INFO), ALOG_WRONG_HANDLE);
+    EXPECT(alog_is_on(as_producer(&files), 0, ALOG_INFO), ALOG_WRONG_HANDLE);
     EXPECT(alog_flush(as_producer(&pool), 0, NULL), ALOG_WRONG_HANDLE);
     EXPECT(alog_dump(as_producer(&pool), 0, 0, NULL), ALOG_WRONG_HANDLE);
     EXPECT(alog_dump(as_producer(&worker), 0, 0, NULL), ALOG_WRONG_HANDLE);
@@ -277,6 +284,9 @@ static void messages(void)
     EXPECT(number, 99);
     EXPECT(alog_set_level(&producer, 1, ALOG_INFO), ALOG_NO_LOGGER);
     EXPECT(alog_set_level(&producer, 0, (alog_level)7), ALOG_NO_LEVEL);
+    EXPECT(alog_is_on(&producer, 1, ALOG_INFO), ALOG_NO_LOGGER);
+    EXPECT(alog_is_on_in_pool(&pool, UINT32_MAX, ALOG_INFO), ALOG_NO_LOGGER);
+    EXPECT(alog_is_on(&producer, 0, (alog_level)7), ALOG_NO_LEVEL);
     EXPECT(alog_log(&producer, 1, ALOG_INFO, 0, "x", 1, &ticket), ALOG_NO_LOGGER);
     EXPECT(alog_log(&producer, 0, (alog_level)7, 0, "x", 1, &ticket), ALOG_NO_LEVEL);
     EXPECT(alog_log(&producer, 0, (alog_level)UINT32_MAX, 0, "x", 1, &ticket), ALOG_NO_LEVEL);

@@ -28,7 +28,7 @@ const std::string config = "queue = 64\nworkers = 2\ntext = 100\n[[sink]]\nname 
 template <typename Call> std::string thrown(Call call) {
     try {
         call();
-    } catch (const spdlog::spdlog_ex &error) {
+    } catch (const alog::error &error) {
         return error.what();
     }
     return "";
@@ -78,9 +78,9 @@ void messages(const std::string &folder) {
     net->log(spdlog::source_loc{"src/a.cpp", 7, "f"}, spdlog::level::critical, "two");
     disk->warn("below the level of alog");
     disk->error("three");
-    host->set_level("disk", spdlog::level::warn);
+    host->set_level("disk", ALOG_WARNING);
     disk->warn("four");
-    EXPECT(thrown([&host] { host->set_level("nobody", spdlog::level::warn); }).find("no such logger") != std::string::npos, 1);
+    EXPECT(thrown([&host] { host->set_level("nobody", ALOG_WARNING); }).find("no such logger") != std::string::npos, 1);
     net->set_level(spdlog::level::err);
     net->info("below the level of spdlog");
     net->error(std::string("\xff"));
