@@ -356,6 +356,16 @@ impl Trial {
         self.logs(at, with_source(logger, text, file, function), ticket)
     }
 
+    /// What is done on a logger, without a message.
+    fn looks(&mut self, deed: Deed<'_>) -> Seen {
+        match deed {
+            Deed::Finds(at, name, number) => self.finds(at, name, number),
+            Deed::Sets(at, logger, level) => self.sets(at, logger, level),
+            Deed::Asks(at, logger, level) => self.asks(at, logger, level),
+            _ => (Answer::InUse, false),
+        }
+    }
+
     /// It is done once.
     pub fn does(&mut self, deed: Deed<'_>) -> Seen {
         match deed {
@@ -364,9 +374,7 @@ impl Trial {
             Deed::Opens(at, over, opening) => self.opens(at, over, opening),
             Deed::Makes(at, to) => self.makes(at, to),
             Deed::Hires(at, to) => self.hires(at, to),
-            Deed::Finds(at, name, number) => self.finds(at, name, number),
-            Deed::Sets(at, logger, level) => self.sets(at, logger, level),
-            Deed::Asks(at, logger, level) => self.asks(at, logger, level),
+            Deed::Finds(..) | Deed::Sets(..) | Deed::Asks(..) => self.looks(deed),
             Deed::Logs(at, logger, level, text, ticket) => {
                 self.says(at, logger, level, text, ticket)
             }

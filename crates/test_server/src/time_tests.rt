@@ -1,6 +1,7 @@
 //! The times of messages: those of the calls of a client.
 use crate::answers::{SinkRow, Wanted, tells};
-use crate::asks::Ask;
+use crate::asks::{Ask, Host};
+use std::alloc::Global;
 use std::io;
 use std::process::Abort;
 use std::time::Clock;
@@ -32,20 +33,24 @@ fn are_between(text: &str, from: u128, to: u128) -> bool {
 }
 
 /// The time now, in nanoseconds since 1970.
-fn now(rt: &HostRuntime) -> io::Result<u128> {
-    Ok(rt.since_1970()?.as_nanos())
+fn now(clock: &impl Clock) -> io::Result<u128> {
+    Ok(clock.since_1970()?.as_nanos())
+}
+
+/// Whether a server runs as it is to, whose clients log in each way, and the times of its start and its end.
+fn ran<R: Host>(rt: &R, alloc: Global, folder: &str) -> io::Result<(bool, u128, u128)> {
+    let from = now(rt)?;
+    let at = (TIMES, folder);
+    let so = tells(rt, alloc, at, Ask::Ways, Wanted::Sinks(out()));
+    Ok((so, from, now(rt)?))
 }
 
 /// Each call of a client stamps its message with the time of the call, and a dump its markers.
 #[test]
 fn messages_have_the_times_of_their_calls(rt: HostRuntime) -> io::Result<()> {
     let folder = folder(&rt)?;
-    let from = now(&rt)?;
-    let at = (TIMES, folder.as_str());
-    let so = tells(&rt, rt.alloc(), at, Ask::Ways, Wanted::Sinks(out()));
-    assert!(rt; so);
-    let to = now(&rt)?;
+    let (so, from, to) = ran(&rt, rt.alloc(), folder.as_str())?;
     let lines = lines_in(&rt, &folder)?;
-    assert!(rt; are_between(lines.as_str(), from, to));
+    assert!(rt; so && are_between(lines.as_str(), from, to));
     Ok(())
 }
