@@ -7,8 +7,9 @@ use std::io;
 use std::process::Abort;
 use test_runs::{folder, lines_in};
 
-/// Each line is the level of its message and its text.
+/// Each line is the level of its message and its text. The logger whose levels are set is not the first one.
 const LETTERS: &str = "[[sink]]\nname = \"out\"\nkind = \"memory\"\npattern = \"%L %v\"\n\n\
+                       [[logger]]\nname = \"other\"\nsinks = [\"out\"]\n\n\
                        [[logger]]\nname = \"net\"\nsinks = [\"out\"]\n";
 
 /// Its sink, without a fault.
