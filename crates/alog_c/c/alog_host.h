@@ -89,8 +89,9 @@ static inline enum alog_answer alog_seat_work(alog_seat *seat)
     size_t ended = 0;
     const enum alog_answer answer = alog_work(&seat->worker, seat->host->batch, &ended);
     seat->ended += ended;
+    seat->found += ended;
     if (ended > 0)
-        seat->spins = 0;
+        seat->rests = 0;
     if (answer != ALOG_DONE || seat->ended >= seat->host->ring_behind) {
         alog_bell_ring(&seat->host->room, UINT32_MAX);
         seat->ended = 0;
@@ -113,7 +114,7 @@ static inline void *alog_seat_run(void *at)
             continue;
         }
         yields = 0;
-        if (answer == ALOG_DONE || alog_seat_spins(seat))
+        if (answer == ALOG_DONE || alog_seat_pauses(seat, &seat->host->room))
             continue;
         alog_bell_enter(bell);
         is_ending = __atomic_load_n(&seat->host->is_ending, __ATOMIC_SEQ_CST);
@@ -148,7 +149,10 @@ static inline enum alog_answer alog_seat_start(alog_host *host, alog_seat *seat)
         return answer;
     seat->host = host;
     seat->ended = 0;
-    seat->spins = 0;
+    seat->rests = 0;
+    seat->pauses = ALOG_PAUSES_MIN;
+    seat->pauses_most = ALOG_PAUSES_MAX;
+    seat->found = 0;
     alog_signals_of_worker(&back);
     pthread_sigmask(SIG_SETMASK, &back, &before);
     failed = pthread_create(&seat->thread, NULL, alog_seat_run, seat);

@@ -53,8 +53,9 @@ enum { ALOG_BATCH = 16, ALOG_ROOM = 2048 };
 /* How often a log is tried, and a worker yields, before they rest, and the nanoseconds that a worker rests which waits for another. */
 enum { ALOG_TRIES = 8, ALOG_YIELDS = 64, ALOG_REST = 100000 };
 
-/* How often a worker spins that finds nothing, before it sleeps, and for how many pauses of the processor, which are one to three microseconds. */
-enum { ALOG_SPINS = 4, ALOG_PAUSES = 64 };
+/* How often a worker rests that finds nothing, before it sleeps; for how many pauses of the processor, of which 64 are one to three microseconds,
+   at the least and at the most; and how many messages that come from rest to rest are few, and how many are enough. */
+enum { ALOG_RESTS = 4, ALOG_PAUSES_MIN = 64, ALOG_PAUSES_MAX = 1024, ALOG_FEW = 4, ALOG_ENOUGH = 128 };
 
 /* The file by which a folder is held, which no sink may have, and the longest name that a configuration gives a file. */
 #define ALOG_LOCK ".alog.lock"
@@ -87,9 +88,13 @@ typedef struct alog_seat {
     struct alog_host *host;
     alog_worker worker;
     pthread_t thread;
-    /* how many messages it ended since it rang for room, and how often it spun since it ended one */
+    /* how many messages it ended since it rang for room, and how often it rested since it ended one */
     size_t ended;
-    unsigned spins;
+    unsigned rests;
+    /* for how many pauses it rested last, and may rest, and how many messages it ended since then */
+    unsigned pauses;
+    unsigned pauses_most;
+    size_t found;
 } alog_seat;
 
 /* A file that is open, where its name has some bytes, when it was used last, and whether something was written that was not brought to the
@@ -239,17 +244,38 @@ static inline void alog_seat_rest(unsigned *yields)
     }
 }
 
-/* Lets a worker that found nothing spin, in place of sleeping, as long as it may: while messages come in a row the next ones come meanwhile, and
-   whoever logs them need not wake it, which would take a call of the system each time. Answers 0 where it is to sleep. */
-static inline int alog_seat_spins(alog_seat *seat)
+/* Sets for how many pauses a worker rests: the fewest where only a few messages came since its last rest, else twice as many as long as not
+   enough come. For a worker that is quicker than those who log finds nothing again and again, and one that looked again at once would be right
+   behind them: both would wait for the same lines of the cache, message by message. Behind a longer rest many messages lie there, and those who
+   log are as far ahead. */
+static inline void alog_seat_pace(alog_seat *seat)
 {
-    const unsigned most = ALOG_SPINS;
-    int pauses;
-    if (seat->spins == most)
+    const unsigned least = ALOG_PAUSES_MIN;
+    const size_t few = ALOG_FEW, enough = ALOG_ENOUGH;
+    if (seat->found < few)
+        seat->pauses = least;
+    else if (seat->found < enough && seat->pauses < seat->pauses_most)
+        seat->pauses *= 2;
+    seat->found = 0;
+}
+
+/* Lets a worker that found nothing rest, in place of sleeping, as often as it may: while messages come in a row the next ones come meanwhile,
+   and whoever logs them need not wake it, which would take a call of the system each time. Answers 0 where it is to sleep. It rang for room
+   before, so where somebody waits for room behind the rest, that was too long for the queue, and none is so long again. */
+static inline int alog_seat_pauses(alog_seat *seat, alog_bell *room)
+{
+    const unsigned rests_most = ALOG_RESTS, least = ALOG_PAUSES_MIN;
+    unsigned pauses;
+    if (seat->rests == rests_most)
         return 0;
-    seat->spins++;
-    for (pauses = 0; pauses < ALOG_PAUSES; pauses++)
+    seat->rests++;
+    alog_seat_pace(seat);
+    for (pauses = 0; pauses < seat->pauses; pauses++)
         ALOG_PAUSE();
+    if (seat->pauses > least && __atomic_load_n(&room->sleepers, __ATOMIC_SEQ_CST) > 0) {
+        seat->pauses /= 2;
+        seat->pauses_most = seat->pauses;
+    }
     return 1;
 }
 

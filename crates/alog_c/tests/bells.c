@@ -72,6 +72,64 @@ static void rest(const char *folder)
     EXPECT(report.asked, 0);
 }
 
+/* For how many pauses a worker rests that rested for so many before, may rest for so many, and found so many messages since. */
+static void paces(void)
+{
+    static const struct {
+        unsigned pauses, most;
+        size_t found;
+        unsigned wanted;
+    } rows[] = {
+        {64, 1024, 0, 64},       {64, 1024, 3, 64},     {1024, 1024, 3, 64},    {64, 1024, 4, 128},     {64, 1024, 127, 128},
+        {512, 1024, 127, 1024},  {64, 1024, 128, 64},   {512, 1024, 128, 512},  {1024, 1024, 127, 1024}, {256, 256, 127, 256},
+        {1024, 1024, 9999, 1024}, {128, 256, 4, 256},
+    };
+    static alog_seat seat;
+    size_t row;
+    for (row = 0; row < sizeof rows / sizeof rows[0]; row++) {
+        seat.pauses = rows[row].pauses;
+        seat.pauses_most = rows[row].most;
+        seat.found = rows[row].found;
+        alog_seat_pace(&seat);
+        EXPECT(seat.pauses, rows[row].wanted);
+        EXPECT(seat.pauses_most, rows[row].most);
+        EXPECT(seat.found, 0);
+    }
+}
+
+/* A worker rests four times, and then is to sleep; a rest behind which somebody waits for room is too long, unless it is the shortest. */
+static void rests(void)
+{
+    static alog_seat seat;
+    static alog_bell room;
+    unsigned i;
+    alog_bell_open(&room);
+    seat.pauses = ALOG_PAUSES_MIN;
+    seat.pauses_most = ALOG_PAUSES_MAX;
+    for (i = 0; i < ALOG_RESTS; i++)
+        EXPECT(alog_seat_pauses(&seat, &room), 1);
+    EXPECT(alog_seat_pauses(&seat, &room), 0);
+    EXPECT(seat.pauses, ALOG_PAUSES_MIN);
+    EXPECT(seat.pauses_most, ALOG_PAUSES_MAX);
+    seat.rests = 0;
+    seat.pauses = ALOG_PAUSES_MAX;
+    seat.found = ALOG_ENOUGH;
+    alog_bell_enter(&room);
+    EXPECT(alog_seat_pauses(&seat, &room), 1);
+    EXPECT(seat.pauses, ALOG_PAUSES_MAX / 2);
+    EXPECT(seat.pauses_most, ALOG_PAUSES_MAX / 2);
+    seat.found = ALOG_FEW;
+    alog_bell_leave(&room);
+    EXPECT(alog_seat_pauses(&seat, &room), 1);
+    EXPECT(seat.pauses, ALOG_PAUSES_MAX / 2);
+    alog_bell_enter(&room);
+    EXPECT(alog_seat_pauses(&seat, &room), 1);
+    EXPECT(seat.pauses, ALOG_PAUSES_MIN);
+    EXPECT(seat.pauses_most, ALOG_PAUSES_MAX / 2);
+    alog_bell_leave(&room);
+    alog_bell_close(&room);
+}
+
 static void *log_many(void *at)
 {
     alog_client client = {NULL, {0, NULL}};
@@ -166,6 +224,8 @@ int main(int argc, char **argv)
         return 2;
     refusals(argv[1]);
     too_many_workers(argv[1]);
+    paces();
+    rests();
     rest(argv[1]);
     wake_ups(argv[1]);
     waits_for_room(argv[1], 1);

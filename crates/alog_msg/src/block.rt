@@ -2,7 +2,7 @@ ghost use Rattle.std.specs.Prelude.{◌≡◌, ◌≤◌, ◌<◌, ◌↔◌, If
 
 use crate::item::Item;
 use crate::level::Level;
-use crate::limits::{SHORT_TEXT_MAX, TEXT_LIMIT_MAX, TEXT_LIMIT_MIN};
+use crate::limits::{TEXT_LIMIT_MAX, TEXT_LIMIT_MIN};
 use crate::message::Message;
 use crate::source::{SourceRef, has_long_field};
 use crate::spare::{Spare, small_room, small_rooms};
@@ -141,7 +141,7 @@ impl Block {
             ((length text.now ≤ self.old.limit) × HasLongField source.entry) }
         ensures err { OnErr result (self.new ≡ self.old) }
     {
-        if text.len() > SHORT_TEXT_MAX && text.len() > self.spare.limit {
+        if text.len() > TEXT_LIMIT_MIN && text.len() > self.spare.limit {
             return Err(WriteError::TextTooLong);
         }
         if has_long_field(source) {

@@ -18,8 +18,8 @@ pub const FUNCTION_MAX: usize = 128;
 /// The most bytes of a logger's name.
 pub const LOGGER_NAME_MAX: usize = 64;
 
-/// A text of at most so many bytes lies in its message, and takes no memory of its own.
-pub const SHORT_TEXT_MAX: usize = 64;
+/// A text of at most so many bytes lies in its message, and takes no memory of its own: as many as a block of 128 bytes has room for.
+pub const SHORT_TEXT_MAX: usize = 70;
 
 /// The least room in which memory is taken for a longer text: a text takes the first of these three rooms that has as many
 /// bytes as it, so that what is known of its length tells how much room there is where it lies.

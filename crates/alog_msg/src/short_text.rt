@@ -7,7 +7,7 @@ use std::str;
 /// A text that lies in the value itself, behind its length. Contracts see it as the list of its bytes.
 ///
 /// It is one byte wider than the longest of these texts, and may lie at any address. So a text lies in 72 bytes, with the mark of
-/// where it lies, and a block in 128.
+/// where it lies, and a block in 128. No byte of these is left over.
 #[derive(Drop)]
 pub(crate) struct ShortText {
     len: u8,
@@ -36,6 +36,15 @@ impl ShortText {
             len: text.len() as u8,
             bytes,
         }
+    }
+
+    /// Writes another text over it.
+    pub fn write(&mut self, text: &str)
+        requires { length text.now ≤ SHORT_TEXT_MAX }
+        ensures { self.new ≡ text.now }
+    {
+        self.bytes[..text.len()].copy_from_slice(text.as_bytes());
+        self.len = text.len() as u8;
     }
 
     pub fn as_str(&self) -> &str

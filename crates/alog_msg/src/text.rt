@@ -98,7 +98,7 @@ impl Text {
         ensures { self.new ≡ text.now }
     {
         match &mut self.kept {
-            Kept::Short(short) => *short = ShortText::copy_of(text),
+            Kept::Short(short) => short.write(text),
             Kept::Long(room) => {
                 room.clear();
                 room.push_str(text).unwrap();

@@ -136,7 +136,7 @@ fn items_of_a_block(rt: HostRuntime) {
 }
 
 /// The lengths at which a text lies elsewhere, and those beside them.
-const LENGTHS: [usize; 8] = [1, 64, 65, 256, 257, 2_048, 2_049, 8_192];
+const LENGTHS: [usize; 10] = [1, 64, 65, 70, 71, 256, 257, 2_048, 2_049, 8_192];
 
 /// Writes and checks a text with each source and without, after which another text follows.
 fn each_source(rt: &impl Abort, block: &mut Block, logger: u8, text: &str, following: &str) {
@@ -148,7 +148,7 @@ fn each_source(rt: &impl Abort, block: &mut Block, logger: u8, text: &str, follo
 
 /// Writes and checks a text of each length, after which a text of the first length follows.
 fn each_after(rt: &(impl Abort + AllocGlobal), block: &mut Block, text: &str) {
-    for (len, logger) in LENGTHS.into_iter().zip(0..8) {
+    for (len, logger) in LENGTHS.into_iter().zip(0..10) {
         let other = letters(rt, len);
         each_source(rt, block, logger, other.as_str(), text);
     }
@@ -193,7 +193,7 @@ fn keeps_to_its_limit(rt: &impl Abort, block: &mut Block, text: &str, long: &str
     }
 }
 
-const LIMITS: [usize; 7] = [64, 65, 256, 257, 2_048, 2_049, 8_192];
+const LIMITS: [usize; 9] = [64, 65, 70, 71, 256, 257, 2_048, 2_049, 8_192];
 
 #[test]
 fn blocks_at_their_limit(rt: HostRuntime) {
