@@ -5,8 +5,9 @@
 //     ..
 //     alog_report report = host->stop();
 //
-// Each thread that logs has a client of its own, which goes to the next new thread when it ends. What it logs after that is refused: while its
-// thread-local objects are destroyed, and in the main thread in a destructor of a static object or a handler of atexit.
+// Each thread that logs has a client of its own, which goes to the next new thread when it ends. For what it logs after that one is lent for each
+// call, as one that no thread has, or a new one, as long as there may be one more: while its thread-local objects are destroyed, and in the main
+// thread in a destructor of a static object or a handler of atexit, if the host was not stopped before.
 //
 // A child of a fork has none of the host's threads, and may not log by it. It may end by exit: the host is left as it is there.
 //
@@ -107,14 +108,13 @@ class host {
     // Sets the level of a logger, for all threads, from the next message on.
     void set_level(const std::string &name, alog_level level) { alog::expect(alog_host_set_level(&host_, find(name), level), name); }
 
-    // The client of this thread, which is opened at its first use.
-    alog_client &mine() {
-        if (is_over())
-            throw error(ALOG_NO_HANDLE, "this thread ends, and has no client any more");
-        for (const lease &it : leases().all)
-            if (it.at == lot_.get())
-                return *it.client;
-        return lend();
+    // Calls this with the client of this thread, which is opened at its first use; where the thread ends, and has none any more, with one that
+    // is lent for the call.
+    template <typename Call> alog_answer with_client(const Call &call) {
+        if (!is_over())
+            return call(mine());
+        const loan own(*this);
+        return call(own.client);
     }
 
   private:
@@ -183,12 +183,38 @@ class host {
         return list;
     }
 
+    // A client for one call.
+    struct loan {
+        lot &from;
+        alog_client &client;
+        explicit loan(host &of) : from(*of.lot_), client(of.take()) {}
+        ~loan() { from.take_back(&client); }
+        loan(const loan &) = delete;
+        loan &operator=(const loan &) = delete;
+    };
+
+    // The client of this thread.
+    alog_client &mine() {
+        for (const lease &it : leases().all)
+            if (it.at == lot_.get())
+                return *it.client;
+        return lend();
+    }
+
+    // One for this thread, until it ends.
     alog_client &lend() {
-        alog::expect(lot_->is_own() ? ALOG_DONE : ALOG_NO_HANDLE);
-        const std::lock_guard<std::mutex> guard(lot_->lock);
         std::vector<lease> &all = leases().all;
         all.erase(std::remove_if(all.begin(), all.end(), [](const lease &it) { return it.from.expired(); }), all.end());
         all.reserve(all.size() + 1);
+        alog_client &client = take();
+        all.push_back({lot_.get(), lot_, &client});
+        return client;
+    }
+
+    // One that no thread has, or a new one.
+    alog_client &take() {
+        alog::expect(lot_->is_own() ? ALOG_DONE : ALOG_NO_HANDLE);
+        const std::lock_guard<std::mutex> guard(lot_->lock);
         if (lot_->free.empty()) {
             lot_->free.reserve(lot_->clients.size() + 1);
             lot_->clients.push_back(std::unique_ptr<apart>(new apart{}));
@@ -198,7 +224,6 @@ class host {
         if (client->host == nullptr)
             alog::expect(alog_client_open(&host_, client));
         lot_->free.pop_back();
-        all.push_back({lot_.get(), lot_, client});
         return *client;
     }
 

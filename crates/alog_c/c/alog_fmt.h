@@ -109,7 +109,7 @@ class logger {
     // What this call answers by the client of this thread, or why there is none.
     template <typename Call> alog_answer answer_of(const Call &call) const noexcept {
         try {
-            return call(host_->mine());
+            return host_->with_client(call);
         } catch (...) {
             return thrown();
         }
@@ -119,10 +119,10 @@ class logger {
     template <typename... Args> alog_answer log_as(const alog_source *from, alog_level level, fmt::string_view text, Args &...args) const noexcept {
         alog_answer answer;
         try {
-            alog_client &client = host_->mine();
-            answer = alog_is_on(&client.producer, number_, level);
-            if (answer == ALOG_DONE)
-                answer = write(client, from, level, text, fmt::make_format_args(args...));
+            answer = host_->with_client([&](alog_client &client) {
+                const alog_answer is_on = alog_is_on(&client.producer, number_, level);
+                return is_on == ALOG_DONE ? write(client, from, level, text, fmt::make_format_args(args...)) : is_on;
+            });
         } catch (...) {
             answer = thrown();
         }

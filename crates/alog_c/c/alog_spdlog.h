@@ -47,7 +47,7 @@ class spdlog_sink : public spdlog::sinks::sink {
         const alog_source *from = place.empty() ? nullptr : &source;
         alog_message it = {logger_, level, time.count(), message.payload.data(), message.payload.size(), from};
         try {
-            alog::expect(alog::post(host_->mine(), it));
+            alog::expect(host_->with_client([&it](alog_client &client) { return alog::post(client, it); }));
         } catch (...) {
             host_->refuse();
             throw;
@@ -56,7 +56,10 @@ class spdlog_sink : public spdlog::sinks::sink {
 
     // Posts a flush: what was logged before is in its files when a worker comes to it. Where the queue is full the flush is discarded and
     // counted, unless the policy overruns; the key `flush_on` of the document wants no place in the queue.
-    void flush() override { alog::expect(alog_flush_now(&host_->mine(), logger_)); }
+    void flush() override {
+        const std::uint32_t logger = logger_;
+        alog::expect(host_->with_client([logger](alog_client &client) { return alog_flush_now(&client, logger); }));
+    }
 
     void set_pattern(const std::string &) override {}
     void set_formatter(std::unique_ptr<spdlog::formatter>) override {}

@@ -130,6 +130,43 @@ static void rests(void)
     alog_bell_close(&room);
 }
 
+/* What a worker ended since it rested last is counted, and that it rested is forgotten: on a host whose one worker is this thread. */
+static void counts(const char *folder)
+{
+    static const char config[] = "queue = 4\n[[sink]]\nname = \"file\"\nkind = \"memory\"\n[[logger]]\nname = \"net\"\nsinks = [\"file\"]\n";
+    static const alog_options options = {1, 1, 0, 0};
+    static alog_host own;
+    static alog_seat seat;
+    alog_client client = {NULL, {0, NULL}};
+    alog_report report;
+    int i;
+    own.folder = own.held = -1;
+    EXPECT(alog_host_open(&own, config, sizeof config - 1, folder, &options), ALOG_DONE);
+    pthread_mutex_init(&own.lock, NULL);
+    pthread_mutex_init(&own.files_lock, NULL);
+    alog_bell_open(&own.work);
+    alog_bell_open(&own.room);
+    own.process = getpid();
+    own.is_open = 1;
+    EXPECT(alog_make_worker(&own.pool, &seat.worker), ALOG_DONE);
+    seat.host = &own;
+    seat.found = 7;
+    seat.rests = 3;
+    EXPECT(alog_seat_work(&seat), ALOG_IDLE);
+    EXPECT(seat.found, 7);
+    EXPECT(seat.rests, 3);
+    EXPECT(alog_client_open(&own, &client), ALOG_DONE);
+    for (i = 0; i < 3; i++)
+        EXPECT(alog_log_now(&client, 0, ALOG_INFO, "abc", 3), ALOG_DONE);
+    EXPECT(alog_seat_work(&seat), ALOG_IDLE);
+    EXPECT(seat.found, 10);
+    EXPECT(seat.rests, 0);
+    EXPECT(alog_client_close(&client), ALOG_DONE);
+    EXPECT(alog_give_back(&seat.worker), ALOG_DONE);
+    EXPECT(alog_host_end(&own, &report), ALOG_DONE);
+    EXPECT(report.handled, 3);
+}
+
 static void *log_many(void *at)
 {
     alog_client client = {NULL, {0, NULL}};
@@ -226,6 +263,7 @@ int main(int argc, char **argv)
     too_many_workers(argv[1]);
     paces();
     rests();
+    counts(argv[1]);
     rest(argv[1]);
     wake_ups(argv[1]);
     waits_for_room(argv[1], 1);

@@ -189,11 +189,13 @@ void ends_with_its_last_owner(const std::string &folder) {
     EXPECT(content(folder).size(), 200 * std::string("net I : x\n").size());
 }
 
-// What logs when its thread ends, behind the client of the thread or before it.
+// What logs when its thread ends, before the client of the thread is gone or behind that.
 struct late {
     const alog::logger &to;
-    alog_answer wanted;
-    ~late() { EXPECT(to.info("late"), wanted); }
+    ~late() {
+        EXPECT(to.is_on(ALOG_INFO), 1);
+        EXPECT(to.info("late"), ALOG_DONE);
+    }
 };
 
 // A hundred times four threads use four clients, since those of threads that ended go on.
@@ -211,16 +213,16 @@ void threads_that_come_and_go(const std::string &folder) {
             it.join();
     }
     std::thread([&net] {
-        static thread_local const late behind{net, ALOG_NO_HANDLE};
-        EXPECT(net.info("{}", behind.wanted == ALOG_NO_HANDLE), ALOG_DONE);
-        static thread_local const late before{net, ALOG_DONE};
-        EXPECT(net.info("{}", before.wanted == ALOG_DONE), ALOG_DONE);
+        static thread_local const late behind{net};
+        EXPECT(net.info("{}", &behind.to == &net), ALOG_DONE);
+        static thread_local const late before{net};
+        EXPECT(net.info("{}", &before.to == &net), ALOG_DONE);
     }).join();
-    EXPECT(host->refused(), 1);
+    EXPECT(host->refused(), 0);
     const alog_report report = host->stop();
-    EXPECT(report.handled, 4003);
+    EXPECT(report.handled, 4004);
     EXPECT(report.faults, 0);
-    EXPECT(content(folder).size(), 4000 * std::string("net I : x\n").size() + 2 * std::string("net I : true\n").size() + std::string("net I : late\n").size());
+    EXPECT(content(folder).size(), 4000 * std::string("net I : x\n").size() + 2 * std::string("net I : true\n").size() + 2 * std::string("net I : late\n").size());
 }
 
 } // namespace

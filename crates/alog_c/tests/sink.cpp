@@ -124,10 +124,13 @@ void sources(const std::string &folder) {
     EXPECT_TEXT(content(folder).c_str(), "net I :7 one\nnet I : two\nnet I : three\nnet I : four\n");
 }
 
-// What logs when its thread ends, behind the client of the thread or before it.
+// What logs when its thread ends, before the client of the thread is gone or behind that.
 struct late {
     const std::shared_ptr<spdlog::logger> to;
-    ~late() { to->info("late"); }
+    ~late() {
+        to->info("late");
+        to->flush();
+    }
 };
 
 void ends_of_threads(const std::string &folder) {
@@ -135,16 +138,42 @@ void ends_of_threads(const std::string &folder) {
     const auto net = alog::make_logger(host, "net");
     std::vector<std::string> errors;
     net->set_error_handler([&errors](const std::string &words) { errors.push_back(words); });
+    std::remove(path_of(folder.c_str(), "log.txt"));
     std::thread([&net] {
         static thread_local const late behind{net};
         net->info("{}", behind.to == net);
         static thread_local const late before{net};
         net->info("{}", before.to == net);
     }).join();
-    EXPECT(errors.size(), 1);
-    EXPECT(errors.empty() ? 0 : errors[0].find("this thread ends") != std::string::npos, 1);
-    EXPECT(host->refused(), 1);
-    EXPECT(host->stop().handled, 3);
+    EXPECT(errors.size(), 0);
+    EXPECT(host->refused(), 0);
+    EXPECT(host->stop().handled, 6);
+    EXPECT_TEXT(content(folder).c_str(), "net I : true\nnet I : true\nnet I : late\nnet I : late\n");
+}
+
+// A host that allows one client: what a thread logs behind the end of its own goes by the same, and is refused where another thread has it.
+void one_client(const std::string &folder) {
+    const auto host = alog::make_host(config, folder, alog_options{1, 1, 0, 0});
+    const auto net = alog::make_logger(host, "net");
+    std::size_t errors = 0;
+    net->set_error_handler([&errors](const std::string &) { errors++; });
+    std::remove(path_of(folder.c_str(), "log.txt"));
+    const auto ends = [&net] {
+        std::thread([&net] {
+            static thread_local const late behind{net};
+            net->info("{}", behind.to == net);
+        }).join();
+    };
+    ends();
+    EXPECT(errors, 0);
+    net->info("mine");
+    ends();
+    EXPECT(errors, 3);
+    EXPECT(host->refused(), 2);
+    EXPECT(host->stop().handled, 4);
+    EXPECT_TEXT(content(folder).c_str(), "net I : true\nnet I : late\nnet I : mine\n");
+    ends();
+    EXPECT(host->refused(), 4);
 }
 
 #ifndef IS_SANITIZED
@@ -229,6 +258,7 @@ int main(int argc, char **argv) {
     messages(argv[1]);
     sources(argv[1]);
     ends_of_threads(argv[1]);
+    one_client(argv[1]);
     hosts_that_come_and_go(argv[1]);
     refusals(argv[1]);
 #ifndef IS_SANITIZED
