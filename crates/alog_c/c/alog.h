@@ -194,6 +194,7 @@ enum { ALOG_TEXT_MAX = 8192, ALOG_AREA = 131072, ALOG_NAMES_MAX = 16640 };
 /* What the library exports. A slice is a pointer, which may not be null, and a length. Use the functions below, which test that. */
 uint32_t alog_c_found(alog_files *files, const char *name, size_t name_length, uint64_t size);
 uint32_t alog_c_file_names(const char *document, size_t document_length, char *to, size_t room, size_t *length);
+uint32_t alog_c_queue_places(const char *document, size_t document_length, size_t *places);
 uint32_t alog_c_open(alog_pool *pool, alog_files *files, const char *document, size_t document_length, size_t producers, size_t areas,
                      char *told, size_t told_room, size_t *told_length);
 uint32_t alog_c_take(alog_files *files, char *to, size_t room, size_t *length);
@@ -237,6 +238,14 @@ static inline enum alog_answer alog_file_names(const char *document, size_t docu
         return ALOG_NULL;
     return alog_answer_of(
         alog_c_file_names(document == NULL ? "" : document, document_length, to == NULL ? &none : to, room, length));
+}
+
+/* Tells how many places the queue of a configuration has, 2 to 65,536, without a pool; 0 where the document is refused. */
+static inline enum alog_answer alog_queue_places(const char *document, size_t document_length, size_t *places)
+{
+    if (places == NULL || (document == NULL && document_length > 0))
+        return ALOG_NULL;
+    return alog_answer_of(alog_c_queue_places(document == NULL ? "" : document, document_length, places));
 }
 
 /* Opens a pool of this configuration, a document in TOML of so many bytes, over the files that were found, which `files` says, or over none

@@ -5,9 +5,10 @@
 //     ..
 //     alog_report report = host->stop();
 //
-// Each thread that logs has a client of its own, which goes to the next new thread when it ends. For what it logs after that one is lent for each
-// call, as one that no thread has, or a new one, as long as there may be one more: while its thread-local objects are destroyed, and in the main
-// thread in a destructor of a static object or a handler of atexit, if the host was not stopped before.
+// Each thread that logs has a client of its own, which goes to the next new thread when it ends. What it logs after that, in destructors of its
+// thread-local objects, and in the thread that calls exit in destructors of static objects and handlers of atexit, goes by a client that is lent for
+// the call: one that no thread has, or a new one if the host may open one more. Where it may not, or was stopped, that is refused. It is written if
+// the host ends behind it, as one does that is let go then.
 //
 // A child of a fork has none of the host's threads, and may not log by it. It may end by exit: the host is left as it is there.
 //
@@ -19,6 +20,7 @@
 
 #include <algorithm>
 #include <atomic>
+#include <condition_variable>
 #include <memory>
 #include <mutex>
 #include <stdexcept>
@@ -75,8 +77,8 @@ class host {
     host(const host &) = delete;
     host &operator=(const host &) = delete;
 
-    // Ends it, when all that was logged is written, and reports what became of it; once. No thread may log by it meanwhile; who does so later
-    // is refused.
+    // Ends it, when all that was logged is written, and reports what became of it; once. No thread may log by it meanwhile, but by a client that
+    // is lent for the call; who does so later is refused.
     alog_report stop() {
         alog_report report{};
         alog::expect(lot_->is_own() ? ALOG_DONE : ALOG_NO_HANDLE);
@@ -109,7 +111,7 @@ class host {
     void set_level(const std::string &name, alog_level level) { alog::expect(alog_host_set_level(&host_, find(name), level), name); }
 
     // Calls this with the client of this thread, which is opened at its first use; where the thread ends, and has none any more, with one that
-    // is lent for the call.
+    // is lent for the call. Throws an error where there is none.
     template <typename Call> alog_answer with_client(const Call &call) {
         if (!is_over())
             return call(mine());
@@ -142,6 +144,10 @@ class host {
         // all of them, and those that no thread has, for all of which there is room
         std::vector<std::unique_ptr<apart>> clients;
         std::vector<alog_client *> free;
+        // how many are lent for a call, and whether none is lent any more, since the host ends
+        std::size_t loans = 0;
+        bool is_ending = false;
+        std::condition_variable returned;
         const pid_t process = getpid();
 
         // Whether this is the process that started the host, and no child, which has none of its threads, and a lock that one may have held.
@@ -152,6 +158,16 @@ class host {
                 return;
             const std::lock_guard<std::mutex> guard(lock);
             free.push_back(client);
+        }
+
+        // Takes back what was lent for a call.
+        void end_loan(alog_client *client) {
+            if (!is_own())
+                return;
+            const std::lock_guard<std::mutex> guard(lock);
+            free.push_back(client);
+            if (--loans == 0)
+                returned.notify_all();
         }
     };
 
@@ -187,8 +203,8 @@ class host {
     struct loan {
         lot &from;
         alog_client &client;
-        explicit loan(host &of) : from(*of.lot_), client(of.take()) {}
-        ~loan() { from.take_back(&client); }
+        explicit loan(host &of) : from(*of.lot_), client(of.take(1)) {}
+        ~loan() { from.end_loan(&client); }
         loan(const loan &) = delete;
         loan &operator=(const loan &) = delete;
     };
@@ -206,15 +222,16 @@ class host {
         std::vector<lease> &all = leases().all;
         all.erase(std::remove_if(all.begin(), all.end(), [](const lease &it) { return it.from.expired(); }), all.end());
         all.reserve(all.size() + 1);
-        alog_client &client = take();
+        alog_client &client = take(0);
         all.push_back({lot_.get(), lot_, &client});
         return client;
     }
 
-    // One that no thread has, or a new one.
-    alog_client &take() {
+    // One that no thread has, or a new one; counted where it is a loan.
+    alog_client &take(std::size_t loans) {
         alog::expect(lot_->is_own() ? ALOG_DONE : ALOG_NO_HANDLE);
         const std::lock_guard<std::mutex> guard(lot_->lock);
+        alog::expect(lot_->is_ending ? ALOG_NO_HANDLE : ALOG_DONE);
         if (lot_->free.empty()) {
             lot_->free.reserve(lot_->clients.size() + 1);
             lot_->clients.push_back(std::unique_ptr<apart>(new apart{}));
@@ -224,11 +241,15 @@ class host {
         if (client->host == nullptr)
             alog::expect(alog_client_open(&host_, client));
         lot_->free.pop_back();
+        lot_->loans += loans;
         return *client;
     }
 
+    // Closes all clients, when those are back that are lent: whoever has one needs at most room for one message, which workers make.
     void close_all() {
-        const std::lock_guard<std::mutex> guard(lot_->lock);
+        std::unique_lock<std::mutex> guard(lot_->lock);
+        lot_->is_ending = true;
+        lot_->returned.wait(guard, [this] { return lot_->loans == 0; });
         for (const std::unique_ptr<apart> &it : lot_->clients)
             alog_client_close(&it->client);
     }

@@ -72,7 +72,7 @@ class logger {
         return log_as(&from, level, text, args...);
     }
 
-    // Whether the logger reads a message of this level: it is posted, or kept for a backtrace. Not so where there is no client for this thread.
+    // Whether the logger reads a message of this level: it is posted, or kept for a backtrace. Not so where there is no client for the call.
     bool is_on(alog_level level) const noexcept {
         return answer_of([this, level](alog_client &client) { return alog_is_on(&client.producer, number_, level); }) == ALOG_DONE;
     }
@@ -106,7 +106,7 @@ class logger {
         }
     }
 
-    // What this call answers by the client of this thread, or why there is none.
+    // What this call answers by a client, or why there is none.
     template <typename Call> alog_answer answer_of(const Call &call) const noexcept {
         try {
             return host_->with_client(call);

@@ -91,7 +91,7 @@ static inline enum alog_answer alog_seat_work(alog_seat *seat)
     seat->ended += ended;
     seat->found += ended;
     if (ended > 0)
-        seat->rests = 0;
+        seat->pauses = 0;
     if (answer != ALOG_DONE || seat->ended >= seat->host->ring_behind) {
         alog_bell_ring(&seat->host->room, UINT32_MAX);
         seat->ended = 0;
@@ -114,7 +114,7 @@ static inline void *alog_seat_run(void *at)
             continue;
         }
         yields = 0;
-        if (answer == ALOG_DONE || alog_seat_pauses(seat, &seat->host->room))
+        if (answer == ALOG_DONE || alog_seat_pauses(seat, seat->host->spins_most))
             continue;
         alog_bell_enter(bell);
         is_ending = __atomic_load_n(&seat->host->is_ending, __ATOMIC_SEQ_CST);
@@ -149,9 +149,8 @@ static inline enum alog_answer alog_seat_start(alog_host *host, alog_seat *seat)
         return answer;
     seat->host = host;
     seat->ended = 0;
-    seat->rests = 0;
-    seat->pauses = ALOG_PAUSES_MIN;
-    seat->pauses_most = ALOG_PAUSES_MAX;
+    seat->pauses = 0;
+    seat->spins = ALOG_SPINS_MIN;
     seat->found = 0;
     alog_signals_of_worker(&back);
     pthread_sigmask(SIG_SETMASK, &back, &before);
@@ -192,6 +191,15 @@ static inline enum alog_answer alog_host_end(alog_host *host, alog_report *repor
     return answer;
 }
 
+/* Sets how long workers pause, by the places of the queue. What is wrong with a document that is no configuration alog_open says. */
+static inline enum alog_answer alog_spins_look(alog_host *host, const char *document, size_t length)
+{
+    size_t places = 0;
+    const enum alog_answer answer = alog_queue_places(document, length, &places);
+    host->spins_most = alog_spins_for(places);
+    return answer == ALOG_BAD_CONFIG ? ALOG_DONE : answer;
+}
+
 /* Opens the folder and the pool. */
 static inline enum alog_answer alog_host_open(alog_host *host, const char *document, size_t length, const char *folder,
                                               const alog_options *options)
@@ -210,6 +218,8 @@ static inline enum alog_answer alog_host_open(alog_host *host, const char *docum
     answer = alog_folder_open(host, folder);
     if (answer == ALOG_DONE)
         answer = alog_sinks_look(host, document, length, folder);
+    if (answer == ALOG_DONE)
+        answer = alog_spins_look(host, document, length);
     if (answer == ALOG_DONE)
         answer = alog_open(&host->pool, &host->files, document, length, producers, areas, host->told, sizeof host->told);
     return answer;

@@ -53,9 +53,9 @@ enum { ALOG_BATCH = 16, ALOG_ROOM = 2048 };
 /* How often a log is tried, and a worker yields, before they rest, and the nanoseconds that a worker rests which waits for another. */
 enum { ALOG_TRIES = 8, ALOG_YIELDS = 64, ALOG_REST = 100000 };
 
-/* How often a worker rests that finds nothing, before it sleeps; for how many pauses of the processor, of which 64 are one to three microseconds,
-   at the least and at the most; and how many messages that come from rest to rest are few, and how many are enough. */
-enum { ALOG_RESTS = 4, ALOG_PAUSES_MIN = 64, ALOG_PAUSES_MAX = 1024, ALOG_FEW = 4, ALOG_ENOUGH = 128 };
+/* How often a worker that finds nothing pauses, before it sleeps; for how many pause instructions of the processor at the least and at the most, of
+   which 64 take one to three microseconds; below how many messages from one pause to the next are few, and from how many on they are enough. */
+enum { ALOG_PAUSES = 4, ALOG_SPINS_MIN = 64, ALOG_SPINS_MAX = 1024, ALOG_FEW = 4, ALOG_ENOUGH = 128 };
 
 /* The file by which a folder is held, which no sink may have, and the longest name that a configuration gives a file. */
 #define ALOG_LOCK ".alog.lock"
@@ -88,12 +88,11 @@ typedef struct alog_seat {
     struct alog_host *host;
     alog_worker worker;
     pthread_t thread;
-    /* how many messages it ended since it rang for room, and how often it rested since it ended one */
+    /* how many messages it ended since it rang for room, and how often it paused since it ended one */
     size_t ended;
-    unsigned rests;
-    /* for how many pauses it rested last, and may rest, and how many messages it ended since then */
     unsigned pauses;
-    unsigned pauses_most;
+    /* of how many instructions its last pause was, and how many messages it ended since then */
+    unsigned spins;
     size_t found;
 } alog_seat;
 
@@ -133,6 +132,8 @@ typedef struct alog_host {
     /* how many messages a worker ends at most before it takes what it wrote, and before it rings for room */
     size_t batch;
     size_t ring_behind;
+    /* for how many pause instructions a worker pauses at most */
+    unsigned spins_most;
     size_t clients;
     uint32_t is_open;
     /* the process that started it, whose child has none of its threads */
@@ -244,38 +245,42 @@ static inline void alog_seat_rest(unsigned *yields)
     }
 }
 
-/* Sets for how many pauses a worker rests: the fewest where only a few messages came since its last rest, else twice as many as long as not
-   enough come. For a worker that is quicker than those who log finds nothing again and again, and one that looked again at once would be right
-   behind them: both would wait for the same lines of the cache, message by message. Behind a longer rest many messages lie there, and those who
-   log are as far ahead. */
-static inline void alog_seat_pace(alog_seat *seat)
+/* For how many pause instructions the workers of a queue of so many places pause at the most: one for each four places, so that a queue of few places
+   does not fill up meanwhile, and as many as the bounds allow. */
+static inline unsigned alog_spins_for(size_t places)
 {
-    const unsigned least = ALOG_PAUSES_MIN;
+    const unsigned least = ALOG_SPINS_MIN, most = ALOG_SPINS_MAX;
+    const size_t part = places / 4;
+    return part < least ? least : part > most ? most : ALOG_CAST(unsigned, part);
+}
+
+/* Sets how long the next pause of a worker is: the shortest where few messages came since its last one, else twice as long as that as long as not
+   enough come, up to so many instructions. For a worker that is quicker than those who log finds nothing again and again, and one that looked again
+   at once would be right behind them: both would wait for the same lines of the cache, message by message. Behind a longer pause many messages lie
+   there, and those who log are as far ahead. */
+static inline void alog_seat_pace(alog_seat *seat, unsigned most)
+{
+    const unsigned least = ALOG_SPINS_MIN;
     const size_t few = ALOG_FEW, enough = ALOG_ENOUGH;
     if (seat->found < few)
-        seat->pauses = least;
-    else if (seat->found < enough && seat->pauses < seat->pauses_most)
-        seat->pauses *= 2;
+        seat->spins = least;
+    else if (seat->found < enough && seat->spins < most)
+        seat->spins *= 2;
     seat->found = 0;
 }
 
-/* Lets a worker that found nothing rest, in place of sleeping, as often as it may: while messages come in a row the next ones come meanwhile,
-   and whoever logs them need not wake it, which would take a call of the system each time. Answers 0 where it is to sleep. It rang for room
-   before, so where somebody waits for room behind the rest, that was too long for the queue, and none is so long again. */
-static inline int alog_seat_pauses(alog_seat *seat, alog_bell *room)
+/* Lets a worker that found nothing pause, in place of sleeping, as often as it may: while messages come in a row the next ones come meanwhile, and
+   whoever logs them need not wake it, which would take a call of the system each time. Answers 0 where it is to sleep. */
+static inline int alog_seat_pauses(alog_seat *seat, unsigned most)
 {
-    const unsigned rests_most = ALOG_RESTS, least = ALOG_PAUSES_MIN;
-    unsigned pauses;
-    if (seat->rests == rests_most)
+    const unsigned pauses_most = ALOG_PAUSES;
+    unsigned spins;
+    if (seat->pauses == pauses_most)
         return 0;
-    seat->rests++;
-    alog_seat_pace(seat);
-    for (pauses = 0; pauses < seat->pauses; pauses++)
+    seat->pauses++;
+    alog_seat_pace(seat, most);
+    for (spins = 0; spins < seat->spins; spins++)
         ALOG_PAUSE();
-    if (seat->pauses > least && __atomic_load_n(&room->sleepers, __ATOMIC_SEQ_CST) > 0) {
-        seat->pauses /= 2;
-        seat->pauses_most = seat->pauses;
-    }
     return 1;
 }
 

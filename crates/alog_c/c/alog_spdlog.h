@@ -14,8 +14,8 @@
 // handler prints at most one in a second. How many they were `refused` of the host says. A message whose source is too long, or no UTF-8, goes
 // without it. What is discarded since the queue is full is told by the report alone.
 //
-// Times are UTC unless the document says `offset` or `zone`, where spdlog's are local; `%t` is the number of the thread's client, from 0 on, and not
-// the system's. `spdlog::register_logger` makes a logger known to `spdlog::get`.
+// Times are UTC unless the document says `offset` or `zone`, where spdlog's are local; `%t` is the number of the client that the message goes by, from
+// 0 on, and not the system's. `spdlog::register_logger` makes a logger known to `spdlog::get`.
 //
 // C++11, and spdlog 1.5 or later.
 #ifndef ALOG_SPDLOG_H

@@ -12,6 +12,7 @@ ghost use Rattle.alog_ffi.specs.Files.{AnswersClose, AnswersFound, AnswersTake, 
 ghost use Rattle.alog_ffi.specs.Handles.{held};
 ghost use Rattle.alog_ffi.specs.Names.{AnswersNames};
 ghost use Rattle.alog_ffi.specs.Opening.{AnswersOpen, TellsWhy};
+ghost use Rattle.alog_ffi.specs.Places.{AnswersPlaces};
 ghost use Rattle.alog_c.specs.Says.{Says};
 ghost use Rattle.alog_ffi.specs.declared.answer.Answer.{Answer};
 ghost use Rattle.alog_ffi.specs.declared.said.Said.{Said};
@@ -38,6 +39,14 @@ pub extern "C" fn alog_c_file_names(
     ensures { (a : Answer) × (result ≡ number_of a) × AnswersNames document.now to.old to.new length.new a }
 {
     alog_ffi::file_names(alloc, document, to, length).number()
+}
+
+/// Tells how many places the queue of a configuration has.
+#[unsafe(no_mangle)]
+pub extern "C" fn alog_c_queue_places(alloc: Global, document: &[u8], places: &mut usize) -> u32
+    ensures { (a : Answer) × (result ≡ number_of a) × AnswersPlaces document.now places.new a }
+{
+    alog_ffi::queue_places(alloc, document, places).number()
 }
 
 /// Opens a pool of this configuration, which may make so many producers. Each sink has so many areas of 131,072 bytes for what it hands out. Where the

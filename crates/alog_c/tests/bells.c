@@ -72,65 +72,61 @@ static void rest(const char *folder)
     EXPECT(report.asked, 0);
 }
 
-/* For how many pauses a worker rests that rested for so many before, may rest for so many, and found so many messages since. */
+/* How long a worker pauses at most, by the places of the queue. */
+static void bounds(const char *folder)
+{
+    static const struct {
+        size_t places;
+        unsigned wanted;
+    } rows[] = {{0, 64}, {2, 64}, {256, 64}, {512, 128}, {2048, 512}, {4096, 1024}, {8192, 1024}, {65536, 1024}};
+    alog_report report;
+    size_t row;
+    for (row = 0; row < sizeof rows / sizeof rows[0]; row++)
+        EXPECT(alog_spins_for(rows[row].places), rows[row].wanted);
+    start(folder, 1024, "block");
+    EXPECT(host.spins_most, 256);
+    EXPECT(alog_stop(&host, &report), ALOG_DONE);
+}
+
+/* How long a worker pauses whose last pause was so long, that may pause so long, and ended so many messages since. */
 static void paces(void)
 {
     static const struct {
-        unsigned pauses, most;
+        unsigned spins, most;
         size_t found;
         unsigned wanted;
     } rows[] = {
-        {64, 1024, 0, 64},       {64, 1024, 3, 64},     {1024, 1024, 3, 64},    {64, 1024, 4, 128},     {64, 1024, 127, 128},
-        {512, 1024, 127, 1024},  {64, 1024, 128, 64},   {512, 1024, 128, 512},  {1024, 1024, 127, 1024}, {256, 256, 127, 256},
-        {1024, 1024, 9999, 1024}, {128, 256, 4, 256},
+        {64, 1024, 0, 64},        {64, 1024, 3, 64},     {1024, 1024, 3, 64},     {64, 1024, 4, 128},   {64, 1024, 127, 128},
+        {512, 1024, 127, 1024},   {64, 1024, 128, 64},   {512, 1024, 128, 512},   {1024, 1024, 127, 1024}, {256, 256, 127, 256},
+        {1024, 1024, 9999, 1024}, {128, 256, 4, 256},    {64, 64, 100, 64},
     };
     static alog_seat seat;
     size_t row;
     for (row = 0; row < sizeof rows / sizeof rows[0]; row++) {
-        seat.pauses = rows[row].pauses;
-        seat.pauses_most = rows[row].most;
+        seat.spins = rows[row].spins;
         seat.found = rows[row].found;
-        alog_seat_pace(&seat);
-        EXPECT(seat.pauses, rows[row].wanted);
-        EXPECT(seat.pauses_most, rows[row].most);
+        alog_seat_pace(&seat, rows[row].most);
+        EXPECT(seat.spins, rows[row].wanted);
         EXPECT(seat.found, 0);
     }
 }
 
-/* A worker rests four times, and then is to sleep; a rest behind which somebody waits for room is too long, unless it is the shortest. */
-static void rests(void)
+/* A worker that finds nothing pauses four times, and then is to sleep. */
+static void pauses(void)
 {
     static alog_seat seat;
-    static alog_bell room;
     unsigned i;
-    alog_bell_open(&room);
-    seat.pauses = ALOG_PAUSES_MIN;
-    seat.pauses_most = ALOG_PAUSES_MAX;
-    for (i = 0; i < ALOG_RESTS; i++)
-        EXPECT(alog_seat_pauses(&seat, &room), 1);
-    EXPECT(alog_seat_pauses(&seat, &room), 0);
-    EXPECT(seat.pauses, ALOG_PAUSES_MIN);
-    EXPECT(seat.pauses_most, ALOG_PAUSES_MAX);
-    seat.rests = 0;
-    seat.pauses = ALOG_PAUSES_MAX;
-    seat.found = ALOG_ENOUGH;
-    alog_bell_enter(&room);
-    EXPECT(alog_seat_pauses(&seat, &room), 1);
-    EXPECT(seat.pauses, ALOG_PAUSES_MAX / 2);
-    EXPECT(seat.pauses_most, ALOG_PAUSES_MAX / 2);
+    for (i = 0; i < ALOG_PAUSES; i++)
+        EXPECT(alog_seat_pauses(&seat, ALOG_SPINS_MAX), 1);
+    EXPECT(alog_seat_pauses(&seat, ALOG_SPINS_MAX), 0);
+    EXPECT(seat.spins, ALOG_SPINS_MIN);
+    seat.pauses = 0;
     seat.found = ALOG_FEW;
-    alog_bell_leave(&room);
-    EXPECT(alog_seat_pauses(&seat, &room), 1);
-    EXPECT(seat.pauses, ALOG_PAUSES_MAX / 2);
-    alog_bell_enter(&room);
-    EXPECT(alog_seat_pauses(&seat, &room), 1);
-    EXPECT(seat.pauses, ALOG_PAUSES_MIN);
-    EXPECT(seat.pauses_most, ALOG_PAUSES_MAX / 2);
-    alog_bell_leave(&room);
-    alog_bell_close(&room);
+    EXPECT(alog_seat_pauses(&seat, ALOG_SPINS_MAX), 1);
+    EXPECT(seat.spins, 2 * ALOG_SPINS_MIN);
 }
 
-/* What a worker ended since it rested last is counted, and that it rested is forgotten: on a host whose one worker is this thread. */
+/* What a worker ended since it paused last is counted, and that it paused is forgotten: on a host whose one worker is this thread. */
 static void counts(const char *folder)
 {
     static const char config[] = "queue = 4\n[[sink]]\nname = \"file\"\nkind = \"memory\"\n[[logger]]\nname = \"net\"\nsinks = [\"file\"]\n";
@@ -151,16 +147,16 @@ static void counts(const char *folder)
     EXPECT(alog_make_worker(&own.pool, &seat.worker), ALOG_DONE);
     seat.host = &own;
     seat.found = 7;
-    seat.rests = 3;
+    seat.pauses = 3;
     EXPECT(alog_seat_work(&seat), ALOG_IDLE);
     EXPECT(seat.found, 7);
-    EXPECT(seat.rests, 3);
+    EXPECT(seat.pauses, 3);
     EXPECT(alog_client_open(&own, &client), ALOG_DONE);
     for (i = 0; i < 3; i++)
         EXPECT(alog_log_now(&client, 0, ALOG_INFO, "abc", 3), ALOG_DONE);
     EXPECT(alog_seat_work(&seat), ALOG_IDLE);
     EXPECT(seat.found, 10);
-    EXPECT(seat.rests, 0);
+    EXPECT(seat.pauses, 0);
     EXPECT(alog_client_close(&client), ALOG_DONE);
     EXPECT(alog_give_back(&seat.worker), ALOG_DONE);
     EXPECT(alog_host_end(&own, &report), ALOG_DONE);
@@ -261,8 +257,9 @@ int main(int argc, char **argv)
         return 2;
     refusals(argv[1]);
     too_many_workers(argv[1]);
+    bounds(argv[1]);
     paces();
-    rests();
+    pauses();
     counts(argv[1]);
     rest(argv[1]);
     wake_ups(argv[1]);

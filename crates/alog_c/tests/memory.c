@@ -73,6 +73,17 @@ static void name_files(struct round *round)
     EXPECT_TEXT(names, "a.txt");
 }
 
+/* Asks how many places the queue has. */
+static void count_places(struct round *round)
+{
+    size_t places = 99;
+    if (!goes(round, alog_queue_places(config, sizeof config - 1, &places))) {
+        EXPECT(places, 0);
+        EXPECT(alog_queue_places(config, sizeof config - 1, &places), ALOG_DONE);
+    }
+    EXPECT(places, 8);
+}
+
 /* Tells of two files, of which one is there for a sink. */
 static void find_files(struct round *round)
 {
@@ -97,6 +108,7 @@ static void open_pool(struct round *round)
 static void open_all(struct round *round)
 {
     name_files(round);
+    count_places(round);
     find_files(round);
     open_pool(round);
     if (!goes(round, alog_make_producer(&round->pool, &round->producer))) {

@@ -60,6 +60,8 @@ static void nulls(void)
     EXPECT(alog_file_names(NULL, 1, told, sizeof told, &length), ALOG_NULL);
     EXPECT(alog_file_names(config, sizeof config - 1, NULL, 1, &length), ALOG_NULL);
     EXPECT(alog_file_names(config, sizeof config - 1, told, sizeof told, NULL), ALOG_NULL);
+    EXPECT(alog_queue_places(NULL, 1, &length), ALOG_NULL);
+    EXPECT(alog_queue_places(config, sizeof config - 1, NULL), ALOG_NULL);
     EXPECT(open_at(NULL, &files), ALOG_NULL);
     EXPECT(open_at(&pool, NULL), ALOG_NULL);
     EXPECT(alog_open(&pool, &files, NULL, 1, 1, 1, told, sizeof told), ALOG_NULL);
@@ -173,6 +175,22 @@ static void names(void)
     EXPECT(length, ALOG_NAMES_MAX);
     EXPECT(room[ALOG_NAMES_MAX - 1], 0);
     EXPECT_TEXT(room + ALOG_NAMES_MAX - 4, "255");
+}
+
+/* The places of a document's queue, of which there are 8,192 where it says nothing. */
+static void places(void)
+{
+    static const char days[] = "[[sink]]\nname = \"d\"\nkind = \"daily\"\nfile = \"d.txt\"\n[[logger]]\nname = \"net\"\nsinks = [\"d\"]\n";
+    length = 99;
+    EXPECT(alog_queue_places(config, sizeof config - 1, &length), ALOG_DONE);
+    EXPECT(length, 4);
+    EXPECT(alog_queue_places(days, sizeof days - 1, &length), ALOG_DONE);
+    EXPECT(length, 8192);
+    EXPECT(alog_queue_places("queue = 3", 9, &length), ALOG_BAD_CONFIG);
+    EXPECT(length, 0);
+    length = 99;
+    EXPECT(alog_queue_places(NULL, 0, &length), ALOG_BAD_CONFIG);
+    EXPECT(length, 0);
 }
 
 /* A document that is no configuration, with the words of its fault, whole and cut. The files that were found stay. */
@@ -421,6 +439,7 @@ int main(int argc, char **argv)
     empty_handles();
     founds();
     names();
+    places();
     openings();
     EXPECT(open_at(&pool, &files), ALOG_DONE);
     EXPECT(alog_make_producer(&pool, &producer), ALOG_DONE);

@@ -11,3 +11,4 @@ pub mod Reports
 pub mod Files
 pub mod Calls
 pub mod Names
+pub mod Places

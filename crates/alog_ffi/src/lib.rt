@@ -6,7 +6,7 @@
 //! tests what it is given, and answers why it did nothing. No call waits, starts a thread or sleeps, or calls the system: what is to be done to files is
 //! handed out by `take`.
 //!
-//! Read `answer.rt` with `specs/Answers.antt`; `part.rt`, `handle.rt`, `holding.rt` and `slot.rt` with `specs/Held.antt`; `said.rt`, `hearing.rt`, `logging.rt`; `opening.rt` and `naming.rt`; and the
+//! Read `answer.rt` with `specs/Answers.antt`; `part.rt`, `handle.rt`, `holding.rt` and `slot.rt` with `specs/Held.antt`; `said.rt`, `hearing.rt`, `logging.rt`; `opening.rt`, `naming.rt` and `places.rt`; and the
 //! calls with `specs/Calls.antt`: `pools.rt`, `producers.rt`, `workers.rt`, `files.rt`, `giving.rt`.
 #![tactic(auto)]
 
@@ -21,6 +21,7 @@ mod logging;
 mod naming;
 mod opening;
 mod part;
+mod places;
 mod pools;
 mod producers;
 mod report;
@@ -37,6 +38,7 @@ pub use hearing::level_of;
 pub use naming::file_names;
 pub use opening::Asked;
 pub use part::Part;
+pub use places::queue_places;
 pub use pools::{open, producer, shutdown, worker};
 pub use producers::{dump, find, flush, is_on, log, set_level};
 pub use report::AlogReport;

@@ -30,10 +30,11 @@ const WRONG: Opening<'static> = Opening {
 };
 
 /// A text whose copy takes memory of its own.
-const LONG: &[u8] = b"a text of more than sixty-four bytes, which do not lie in a message itself";
+const LONG: &[u8] = b"a text of more than seventy bytes, which do not lie in a message itself";
 
 static OPEN: &[Row<'static>] = &[
     (Deed::Names(TWO_FILES, 60, b"a.log\x00"), Answer::Done),
+    (Deed::Places(TWO_FILES, 8), Answer::Done),
     (Deed::Founds(FILES, b"a.log", 50), Answer::Done),
     (Deed::Founds(FILES, b"other", 5_000), Answer::Done),
     (Deed::Founds(FILES, b"more", 0), Answer::Done),
@@ -77,12 +78,12 @@ static TAKEN: &[Row<'static>] = &[
                 (
                     1,
                     b"a.log",
-                    b"a text of more than sixty-four bytes, which do not lie in a message itself \n",
+                    b"a text of more than seventy bytes, which do not lie in a message itself \n",
                 ),
                 (
                     1,
                     b"a.log",
-                    b"a text of more than sixty-four bytes, which do not lie in a message itself a.c\n",
+                    b"a text of more than seventy bytes, which do not lie in a message itself a.c\n",
                 ),
                 (4, b"a.log", b""),
             ],

@@ -19,6 +19,10 @@ const KINDS: &[u8] = b"[[sink]]\nname = \"one\"\nkind = \"memory\"\nfile = \"a.l
 const DAYS: &[u8] = b"[[sink]]\nname = \"two\"\nkind = \"daily\"\nfile = \"b.log\"\n\
 [[logger]]\nname = \"app\"\nsinks = [\"two\"]\n";
 
+/// A queue of sixteen places.
+const SMALL: &[u8] = b"queue = 16\n[[sink]]\nname = \"two\"\nkind = \"memory\"\n\
+[[logger]]\nname = \"app\"\nsinks = [\"two\"]\n";
+
 /// The files of those that have one from the start.
 const NAMES: &[u8] = b"a.log\x00c.log\x00four\x00";
 
@@ -33,6 +37,21 @@ static NAMED: &[Row<'static>] = &[
     (Deed::Names(b"", 60, b""), Answer::BadConfig),
     (Deed::Names(b"\xff", 60, b""), Answer::BadConfig),
 ];
+
+static SIZED: &[Row<'static>] = &[
+    (Deed::Places(KINDS, 8_192), Answer::Done),
+    (Deed::Places(SMALL, 16), Answer::Done),
+    (Deed::Places(b"queue = 3", 0), Answer::BadConfig),
+    (Deed::Places(b"", 0), Answer::BadConfig),
+    (Deed::Places(b"\xff", 0), Answer::BadConfig),
+];
+
+/// How many places a document's queue has is told without a pool.
+#[test]
+fn places_of_a_document(rt: HostRuntime) {
+    let wrong = wrong_in(rt.alloc(), SIZED);
+    assert!(rt; wrong.is_none(), "{wrong:?}");
+}
 
 /// The files that sinks have from their start are told without a pool, all of them or none.
 #[test]

@@ -2,7 +2,7 @@
 use crate::records::{Record, has_records};
 use alog_ffi::{
     AlogHandle, AlogReport, Answer, Asked, Said, Source, close, dump, file_names, find, flush,
-    found, give, is_on, log, open, producer, set_level, shutdown, take, work, worker,
+    found, give, is_on, log, open, producer, queue_places, set_level, shutdown, take, work, worker,
 };
 use std::alloc::{AllocError, Global};
 use std::mem::{self, ManuallyDrop};
@@ -73,6 +73,8 @@ fn report(numbers: [u64; 6]) -> AlogReport {
 pub enum Deed<'a> {
     /// The files of a document's sinks are told, into so many bytes: their names.
     Names(&'a [u8], usize, &'a [u8]),
+    /// The places of a document's queue are told: how many.
+    Places(&'a [u8], usize),
     /// A file of this name and size is told.
     Founds(usize, &'a [u8], u64),
     /// A pool is opened, with these files.
@@ -191,6 +193,12 @@ impl Trial {
             _ => b"",
         };
         (answer, has_front(&bytes, length, names))
+    }
+
+    fn places(&self, document: &[u8], wanted: usize) -> Seen {
+        let mut places = 99;
+        let answer = queue_places(self.alloc, document, &mut places);
+        (answer, places == wanted)
     }
 
     fn founds(&mut self, at: usize, name: &[u8], size: u64) -> Seen {
@@ -370,6 +378,7 @@ impl Trial {
     pub fn does(&mut self, deed: Deed<'_>) -> Seen {
         match deed {
             Deed::Names(document, room, names) => self.names(document, room, names),
+            Deed::Places(document, places) => self.places(document, places),
             Deed::Founds(at, name, size) => self.founds(at, name, size),
             Deed::Opens(at, over, opening) => self.opens(at, over, opening),
             Deed::Makes(at, to) => self.makes(at, to),

@@ -20,11 +20,11 @@ use std::alloc::{AllocError, Global};
 use std::process::Abort;
 
 /// What is kept: its copy takes memory of its own.
-const TEXT: &str = "a request of more than sixty-four bytes, which do not lie in a message";
+const TEXT: &str = "a request of more than seventy bytes, which do not lie in a message itself";
 
 /// The lines of each store.
 const LINES: &[u8] =
-    b"a request of more than sixty-four bytes, which do not lie in a message\nb\nc\n\
+    b"a request of more than seventy bytes, which do not lie in a message itself\nb\nc\n\
 === backtrace start ===\nb\nc\n=== backtrace end ===\n";
 
 /// Three workers and a backtrace of two messages.

@@ -123,8 +123,8 @@ const PRINTED: [(&str, &str); 4] = [
     ("", "\"\""),
     ("say \"a\"\n", "\"say \\\"a\\\"\\n\""),
     (
-        "a text that is longer than sixty-four bytes, and says \"a\" and \"b\"\n",
-        "\"a text that is longer than sixty-four bytes, and says \\\"a\\\" and \\\"b\\\"\\n\"",
+        "a text that is longer than seventy bytes, and says \"a\" and \"b\" and more\n",
+        "\"a text that is longer than seventy bytes, and says \\\"a\\\" and \\\"b\\\" and more\\n\"",
     ),
 ];
 

@@ -15,7 +15,7 @@ use std::thread::{self, Threads};
 use std::time::Clock;
 
 /// What is logged: its copy for the backtrace takes memory of its own.
-const TEXT: &str = "a request of more than sixty-four bytes, which do not lie in a message";
+const TEXT: &str = "a request of more than seventy bytes, which do not lie in a message itself";
 
 /// The lines of a whole run, and how often each stands there: three texts are logged, and two of them dumped between two others.
 const LINES: [(&str, usize); 3] = [

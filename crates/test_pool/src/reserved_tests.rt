@@ -102,7 +102,7 @@ fn texts(alloc: Global) -> Result<Vec<String>, AllocError> {
         let rest = if message % 2 == 0 {
             ""
         } else {
-            " and what a request says of itself in more than sixty-four bytes, of which each is kept"
+            " and what a request says of itself in more than seventy bytes, of which each is kept"
         };
         texts.push(format!(in alloc; "{producer} {message}{rest}")?)?;
     }
