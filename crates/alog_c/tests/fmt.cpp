@@ -198,6 +198,36 @@ struct late {
     }
 };
 
+// What logs when its thread ends, until that is refused.
+struct persistent {
+    const alog::logger &to;
+    std::atomic<std::uint64_t> &done;
+    ~persistent() {
+        while (to.info("late") == ALOG_DONE)
+            done++;
+    }
+};
+
+// A host that stops while a thread logs by clients that are lent: each of its messages is written, or is refused.
+void stops_beside_late_logs(const std::string &folder) {
+    for (int round = 0; round < 100; round++) {
+        const auto host = alog::make_host(config, folder, 1);
+        const alog::logger net(host, "net");
+        std::atomic<std::uint64_t> done{0};
+        std::thread thread([&net, &done] {
+            static thread_local const persistent behind{net, done};
+            EXPECT(net.info("{}", &behind.to == &net), ALOG_DONE);
+        });
+        while (done == 0)
+            std::this_thread::yield();
+        const alog_report report = host->stop();
+        thread.join();
+        EXPECT(report.handled, done + 1);
+        EXPECT(host->refused(), 1);
+        EXPECT(content(folder).size(), std::string("net I : true\n").size() + done * std::string("net I : late\n").size());
+    }
+}
+
 // A hundred times four threads use four clients, since those of threads that ended go on.
 void threads_that_come_and_go(const std::string &folder) {
     const auto host = alog::make_host(config, folder, alog_options{2, 4, 0, 0});
@@ -235,6 +265,7 @@ int main(int argc, char **argv) {
     refusals(argv[1]);
     hosts(argv[1]);
     ends_with_its_last_owner(argv[1]);
+    stops_beside_late_logs(argv[1]);
     threads_that_come_and_go(argv[1]);
     return trial_end();
 }
