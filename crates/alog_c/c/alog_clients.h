@@ -43,11 +43,13 @@ class error : public std::runtime_error {
 // Whether an answer is a refusal, and no account of what became of a message.
 inline bool is_refusal(alog_answer answer) { return answer >= ALOG_NO_THREAD; }
 
-// Throws what an answer says, where it is a refusal.
-inline void expect(alog_answer answer, const std::string &more = "") {
+// Throws what an answer says, where it is a refusal, with more words where there are some. (No text is made before that: each log by a sink comes here.)
+inline void expect(alog_answer answer, const char *more = "") {
     if (is_refusal(answer))
-        throw error(answer, std::string(alog_says(answer)) + (more.empty() ? "" : " " + more));
+        throw error(answer, std::string(alog_says(answer)) + (*more == 0 ? "" : " ") + more);
 }
+
+inline void expect(alog_answer answer, const std::string &more) { expect(answer, more.c_str()); }
 
 // Posts a message and waits for room: without its source where that is what is refused, as one that is too long or has no names.
 inline alog_answer post(alog_client &client, alog_message &it) {
