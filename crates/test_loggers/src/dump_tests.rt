@@ -1,7 +1,7 @@
 //! Dumps of a shared backtrace that never wait, on a lent desk.
 ghost use Rattle.std.specs.Prelude.{◌≡◌, ◌≤◌, ◌<◌, length};
 ghost use Rattle.alog_lane.specs.Calls.{IsSeatOf};
-ghost use Rattle.alog_msg.specs.declared.limits.TheConstants.{TEXT_LIMIT_MIN};
+ghost use Rattle.alog_msg.specs.declared.limits.TheConstants.{TEXT_LIMIT_MIN, TEXT_LIMIT_MAX};
 ghost use Rattle.alog_registry.specs.Backtrace.{room_for};
 ghost use Rattle.alog_registry.specs.LaneKeeper.{HasList, IsSeated};
 ghost use Rattle.test_loggers.specs.declared.trial.TheConstants.{TEXT_LIMIT};
@@ -336,19 +336,34 @@ fn dumped_beside<R: Abort + Threads>(
 fn a_dump_that_is_held(rt: HostRuntime) -> Result<(), Fail> {
     let alloc = rt.alloc();
     let list = Dumped::new(alloc, ROOM, TEXT_LIMIT_MAX)?;
-    let own = Dumped::new(alloc, ROOM, TEXT_LIMIT_MAX)?;
+    let last = Dumped::new(alloc, ROOM, TEXT_LIMIT_MAX)?;
     let loggers = one(&rt, alloc, Policy::OverrunOldest, ROOM);
-    let desk = desk_of(&rt, alloc, 2);
-    let (lane, mut seat) = lane_of(&rt, alloc, ROOM);
+    is_met_once(&rt, &loggers, alloc, ROOM, list, last);
+    Ok(())
+}
+
+/// Dumps with one list until the lock of a backtrace of so many is met while another thread has it, and then with the other list.
+fn is_met_once<R: Abort + Threads>(
+    rt: &R,
+    loggers: &Loggers,
+    alloc: Global,
+    most: usize,
+    list: Dumped,
+    last: Dumped,
+)
+    requires known { 0 < length loggers.now }
+    requires lists { (list ≡ room_for most TEXT_LIMIT_MAX) × (last ≡ room_for most TEXT_LIMIT_MAX) }
+{
+    let desk = desk_of(rt, alloc, 2);
+    let (lane, mut seat) = lane_of(rt, alloc, most);
     let talker = Talker::new(alloc, lane.split(&mut seat, 1));
     let dumper = Dumper {
         seat: lane.split(&mut seat, 1),
-        list: own,
+        list,
         desk,
     };
-    let (talker, met) = dumped_beside(&rt, &loggers, alloc, &lane, talker, dumper);
-    is_so(&rt, met.is_held && met.next.is_some());
+    let (talker, met) = dumped_beside(rt, loggers, alloc, &lane, talker, dumper);
+    is_so(rt, met.is_held && met.next.is_some());
     let turns = talker.kept.saturating_add(met.dumps);
-    is_so(&rt, dumps_after(&lane, &mut seat, list, turns));
-    Ok(())
+    is_so(rt, dumps_after(&lane, &mut seat, last, turns));
 }
