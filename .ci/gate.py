@@ -3,8 +3,8 @@
 gate.py run FILE WORD..   runs a command, and writes to FILE, each minute and at its end, what it and each prover below it have used
 gate.py also FILE WORD..  the same for a further command of the same gate
 gate.py times FILE        prints the processor seconds of the last gate by crate and phase, beside the budget
-gate.py applies           says which wrong bodies no longer apply, and which crates have more edits than the gate tries or a file
-                          that is not laid out
+gate.py applies           says which wrong bodies no longer apply, which crates have more edits than the gate tries or a file
+                          that is not laid out, and which tests comments cite that are not there
 gate.py refused [NAME..]  tries the edits of crates/NAME/refused, the named wrong bodies that the gate tries: many at once, each in a function
                           of its own (rounds.py), over the libraries that the gate built (prover.py)
 gate.py wrong [NAME..]    the same for the further ones, of crates/NAME/wrong
@@ -33,6 +33,9 @@ BUDGET, SHARE, EDITS_SHARE = 12_500, 600, 400
 MOST_EDITS = 12
 PHASES = ("proof", "tests", "edits")
 TICKS = os.sysconf("SC_CLK_TCK")
+# a test, and the tests that a comment cites: "The tests `a`, `b` and `c` of `test_queue` show it."
+TEST = re.compile(r"#\[test\]\s*(?:#\[[^\]]*\]\s*)*fn (\w+)")
+CITED = re.compile(r"\b[Tt]ests? (`\w+`(?:(?:, | and | of |, and )`\w+`)*)")
 
 
 def stat_of(pid):
@@ -193,6 +196,14 @@ def text_of(file):
         return it.read()
 
 
+def missing_tests(crates):
+    """Returns what is said of each test that a comment cites, as one that shows a call, and that is not there."""
+    texts = {it: text_of(it) for crate in crates for it in glob.glob(f"{crate}/src/**/*.rt", recursive=True)}
+    there = {name for text in texts.values() for name in TEST.findall(text)} | {os.path.basename(it) for it in crates}
+    cited = [(file, words) for file, text in texts.items() for words in CITED.findall(re.sub(r"\n\s*//[/!]? ?", " ", text))]
+    return [f"{file} cites the test {name}, which is not there" for file, words in cited for name in re.findall(r"`(\w+)`", words) if name not in there]
+
+
 def tell(faults):
     print("".join(f"check: {it}\n" for it in faults), end="", flush=True)
     return 1 if faults else 0
@@ -202,7 +213,7 @@ def applies():
     crates = sorted(glob.glob("crates/*"))
     counts = [(crate, len(edits_in(f"{crate}/refused"))) for crate in crates]
     many = [f"{crate}/refused has {count} edits: at most {MOST_EDITS} stand there, the others in {crate}/wrong" for crate, count in counts if count > MOST_EDITS]
-    return tell(many + stale(crates) + badly_laid_out(crates) + aborting(crates))
+    return tell(many + stale(crates) + badly_laid_out(crates) + aborting(crates) + missing_tests(crates))
 
 
 def lanes():

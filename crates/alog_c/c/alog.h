@@ -240,7 +240,8 @@ static inline enum alog_answer alog_file_names(const char *document, size_t docu
         alog_c_file_names(document == NULL ? "" : document, document_length, to == NULL ? &none : to, room, length));
 }
 
-/* Tells how many places the queue of a configuration has, 2 to 65,536, without a pool; 0 where the document is refused. */
+/* Tells how many places the queue of a configuration has, 2 to 65,536, without a pool; 0 where the document is refused, or
+   there is no memory to read it. */
 static inline enum alog_answer alog_queue_places(const char *document, size_t document_length, size_t *places)
 {
     if (places == NULL || (document == NULL && document_length > 0))

@@ -28,7 +28,7 @@ pub enum Answer {
     Idle = 7,
     /// The worker found an item on its way, or another pop was faster.
     Soon = 8,
-    /// The worker found the lock of a sink held.
+    /// The worker found the lock of a sink held, or a dump another thread at the backtrace.
     Held = 9,
     /// All was taken that a pool, which has ended, told its files.
     Ended = 10,
@@ -50,7 +50,7 @@ pub enum Answer {
     TextTooLong = 23,
     /// Refused: the file of the source is longer than 256 bytes, or its function than 128.
     SourceTooLong = 24,
-    /// Refused: the pool made as many producers as it may, 4,096, or as many workers as its configuration says.
+    /// Refused: the pool made as many producers as its open was told, at most 4,096, or as many workers as its configuration says.
     TooMany = 25,
     /// Refused: not all producers and workers have come back.
     PartsOut = 26,

@@ -118,8 +118,8 @@ impl<T: Drop> Desk<T> {
     /// Makes the next atomic step of the actor's push, pop or post. It takes no memory.
     ///
     /// Each step is one event of the queue, which the queue allows, or none. Where a round of a post goes on to the next,
-    /// there is no step of its own. A post under `Block` goes on without bound. A refusal changes nothing. The tests
-    /// `overruns_the_oldest` and `blocks_until_there_is_room` show it.
+    /// there is no step of its own. A post under `Block` goes on without bound. A refusal changes nothing. The test
+    /// `overruns_the_oldest` and `sessions/posts.session` show it.
     pub fn step(&mut self, actor: u32) -> Result<Stepped<T>, StepError>
         ensures no_actor { IsErrOf result StepError.NoActor ↔ (ACTORS ≤ actor) }
         ensures not_in_call { IsErrOf result StepError.NotInCall

@@ -2,8 +2,7 @@
 ghost use Rattle.std.specs.Prelude.{◌≡◌};
 ghost use Rattle.alog_policy.specs.Progress.{without_waiting};
 
-/// What a post does where the queue is full. The tests `overruns_the_oldest`, `discards_the_new` and
-/// `blocks_until_there_is_room` show it.
+/// What a post does where the queue is full. The test `overruns_the_oldest` and `sessions/posts.session` show it.
 #[derive(Clone, Copy, Debug, PartialEq, Eq)]
 pub enum Policy {
     /// It begins again until there is room.
@@ -26,7 +25,7 @@ impl Policy {
     }
 }
 
-/// Why a post ended without a ticket. The tests `stalls_behind_a_claim` and `gives_up_after_64_busy_rounds` show it.
+/// Why a post ended without a ticket. `sessions/posts.session` shows each.
 #[derive(Clone, Copy, Debug, PartialEq, Eq)]
 pub enum Why {
     /// The queue is full, and the policy is to discard the new.

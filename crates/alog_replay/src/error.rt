@@ -88,8 +88,8 @@ impl From<StepError> for LineError {
     }
 }
 
-/// Why a script was not replayed to its end. What was written before stands. The tests `no_files_at_a_read_fault` and
-/// `want_of_memory` show it.
+/// Why a script was not replayed to its end. What was written before stands. The tests `a_reader_failing` and `want_of_memory` of
+/// `test_program` show it.
 #[derive(Clone, Copy, Debug, PartialEq, Eq, Error)]
 pub enum ReplayError {
     /// This line, counted from 1, is refused: the lines before it and the steps done on it are written.

@@ -1,6 +1,6 @@
 use alog_msg::Item;
 
-/// A turn of an actor: what it did beside the queue. The tests `a_log_and_a_work` and `dumps_the_last_two` show them.
+/// A turn of an actor: what it did beside the queue. `a_log_and_a_work` of `test_laws` and `sessions/configured_scripts.session` show them.
 #[derive(Clone, Copy, Debug, PartialEq, Eq, Drop)]
 pub enum Turn {
     /// The backtrace of the message's logger kept it.

@@ -33,7 +33,7 @@ impl<S: Store + Drop> System<S> {
     /// All growths of the deed are made here. The logger's level is read here too: where it filters a log it is answered, and the
     /// log is over, but for the turn that keeps its message where the logger has a backtrace. A text that nobody looks at, since its
     /// log is filtered and not kept, may have any length. A refusal changes nothing; the reasons are looked at in the order of
-    /// `BeginError`. The tests `hello_and_quiet` and `refusals_in_order` show it.
+    /// `BeginError`. `configured_scripts.session` and `refused_configured_scripts.session` of `sessions/` show it.
     pub fn begin(
         &mut self,
         alloc: Global,

@@ -28,8 +28,8 @@ impl<S: Store + Drop> System<S> {
     ///
     /// A step of a log, of a flush, of a worker's pop and of a dump's posts is one of the desk. After the post of a log comes the turn
     /// that keeps its message; before the posts of a dump the turn that takes what was kept; and after a worker's pop the turns on
-    /// sinks that its item asks for, one by one. A refusal changes nothing. The tests `a_log_and_a_work` and `dumps_the_last_two` show
-    /// it.
+    /// sinks that its item asks for, one by one. A refusal changes nothing. `a_log_and_a_work` of `test_laws` and
+    /// `sessions/configured_scripts.session` show it.
     pub fn step(&mut self, actor: u32) -> Result<Stepped, StepError>
         ensures no_actor { IsErrOf result StepError.NoActor ↔ (ACTORS ≤ actor) }
         ensures not_in_call { IsErrOf result StepError.NotInCall ↔ ((actor < ACTORS) × (is_free self.old actor ≡ true)) }
