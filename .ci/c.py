@@ -27,6 +27,7 @@ ADDRESSES = ["-O1", "-g", "-fno-omit-frame-pointer", "-fsanitize=address,undefin
 THREADS = ["-O1", "-g", "-fsanitize=thread"]
 COMPILERS = {"gcc": "g++", "clang": "clang++"}
 WRAPPED = "-Wl,--wrap=malloc,--wrap=realloc,--wrap=free"
+TAKEN = "-Wl,--wrap=malloc,--wrap=realloc,--wrap=alog_c_shutdown"
 CALLS = "-Wl,--wrap=write,--wrap=openat,--wrap=renameat,--wrap=unlinkat,--wrap=fdatasync,--wrap=fsync,--wrap=close,--wrap=alog_c_take"
 # where spdlog and fmt are, whose programs are left out where they are not there, and what their libraries want, which are compiled faster than
 # their headers
@@ -34,7 +35,7 @@ SPDLOG, FMT = "/usr/include/spdlog/spdlog.h", "/usr/include/fmt/format.h"
 SPDLOG_FLAGS, SPDLOG_LIBRARIES = ["-std=c++11", "-DSPDLOG_SHARED_LIB", "-DSPDLOG_COMPILED_LIB", "-DSPDLOG_FMT_EXTERNAL"], ["-lspdlog", "-lfmt"]
 FMT_FLAGS, FMT_LIBRARIES = ["-std=c++11"], ["-lfmt"]
 # the tests in C++, each with what it needs
-FRONT_ENDS = [("sink", SPDLOG, SPDLOG_FLAGS, SPDLOG_LIBRARIES), ("fmt", FMT, FMT_FLAGS, FMT_LIBRARIES)]
+FRONT_ENDS = [("sink", SPDLOG, SPDLOG_FLAGS, SPDLOG_LIBRARIES), ("fmt", FMT, FMT_FLAGS, FMT_LIBRARIES), ("clients", FMT, FMT_FLAGS, FMT_LIBRARIES)]
 # the programs, the words of their runs behind the folder, and what each is linked with beside the library
 Program = collections.namedtuple("Program", "name runs flags has_threads")
 MILLIONS = [["1", "block", "8192"], ["2", "block", "8192"], ["2", "block", "64"], ["2", "discard_new", "64"], ["2", "overrun_oldest", "64"]]
@@ -45,6 +46,7 @@ PROGRAMS = [
     Program("dumps", [[]], [], True),
     Program("refusals", [[]], [], False),
     Program("memory", [[]], [WRAPPED], False),
+    Program("host_memory", [[]], [TAKEN], False),
     Program("threads", [[]], ["-Wl,--wrap=pthread_create"], False),
     Program("files", [[]], [], True),
     Program("faults", [[]], [], True),
@@ -52,6 +54,7 @@ PROGRAMS = [
     Program("gives", [[]], [], True),
     Program("forks", [[]], [], False),
     Program("bells", [[]], [], True),
+    Program("hosts", [[]], [], True),
     Program("million", MILLIONS, [], True),
 ]
 ENDS = re.compile(r"(\d+) passed, (\d+) failed")

@@ -10,7 +10,10 @@
 // the call: one that no thread has, or a new one if the host may open one more. Where it may not, or was stopped, that is refused. It is written if
 // the host ends behind it, as one does that is let go then.
 //
-// A child of a fork has none of the host's threads, and may not log by it. It may end by exit: the host is left as it is there.
+// A thread whose first log is in a destructor of a key of pthreads keeps its client: it goes to no other thread.
+//
+// A child of a fork has none of the host's threads, and may not log by it: what it logs is refused. It may end by exit: the host is left as it is
+// there. It holds the folder with its parent, as alog_host.h says.
 //
 // C++11 or later.
 #ifndef ALOG_CLIENTS_H
@@ -18,14 +21,14 @@
 
 #include "alog_host.h"
 
-#include <algorithm>
 #include <atomic>
-#include <condition_variable>
+#include <chrono>
 #include <memory>
 #include <mutex>
 #include <stdexcept>
 #include <string>
-#include <vector>
+#include <thread>
+#include <utility>
 
 namespace alog {
 
@@ -101,16 +104,22 @@ class host {
     // Counts a message that was refused.
     void refuse() { refused_++; }
 
-    // The number of a logger.
+    // The number of a logger. Refused where the host ends or has ended.
     std::uint32_t find(const std::string &name) {
         std::uint32_t logger = 0;
-        // (a name ends by its first zero there)
-        alog::expect(name.find('\0') == std::string::npos ? alog_host_find(&host_, name.c_str(), &logger) : ALOG_NO_LOGGER, name);
+        alog::expect(entered([&] { return find_in(name, logger); }), name);
         return logger;
     }
 
-    // Sets the level of a logger, for all threads, from the next message on.
-    void set_level(const std::string &name, alog_level level) { alog::expect(alog_host_set_level(&host_, find(name), level), name); }
+    // Sets the level of a logger, for all threads, from the next message on. Refused where the host ends or has ended.
+    void set_level(const std::string &name, alog_level level) {
+        alog::expect(entered([&] {
+                         std::uint32_t logger = 0;
+                         const alog_answer found = find_in(name, logger);
+                         return found == ALOG_DONE ? alog_host_set_level(&host_, logger, level) : found;
+                     }),
+                     name);
+    }
 
     // Calls this with the client of this thread, which is opened at its first use; where the thread ends, and has none any more, with one that
     // is lent for the call. Throws an error where there is none.
@@ -118,75 +127,99 @@ class host {
         if (!is_over())
             return call(mine());
         const loan own(*this);
-        return call(own.client);
+        return call(own.one.client);
     }
 
   private:
     friend std::shared_ptr<host> make_host(const std::string &document, const std::string &folder, const alog_options &options);
 
     host(const std::string &document, const std::string &folder, const alog_options &options) {
+        static const int known = pthread_atfork(nullptr, nullptr, forget);
         const alog_answer answer = alog_start_with(&host_, document.data(), document.size(), folder.c_str(), &options);
         alog_report report;
+        (void)known;
         // (where its workers could not be started, nor the pool be ended, for want of memory)
         if (is_refusal(answer) && host_.is_open)
             alog_stop(&host_, &report);
         alog::expect(answer, host_.told);
     }
 
-    // A client by itself on its lines of the cache, since each of its calls writes into it.
+    // A client by itself on its lines of the cache, since each of its calls writes into it; and which follow it in the lists of its lot.
     struct apart {
+        apart *next, *next_free;
         char before[64];
         alog_client client;
         char after[64];
     };
 
-    // The clients of a host, which threads give back here, also those that end when it has ended.
+    // The clients of a host, which threads give back here, also those that end when it has ended. Under its lock no memory is taken by operator
+    // new, whose handler may log. The list of all is whole at each moment, so that a child of a fork may let go of it.
     struct lot {
         std::mutex lock;
-        // all of them, and those that no thread has, for all of which there is room
-        std::vector<std::unique_ptr<apart>> clients;
-        std::vector<alog_client *> free;
+        // all of them, and those that no thread has
+        apart *all = nullptr, *free = nullptr;
         // how many are lent for a call, and whether none is lent any more, since the host ends
         std::size_t loans = 0;
         bool is_ending = false;
-        std::condition_variable returned;
         const pid_t process = getpid();
+
+        lot() = default;
+        lot(const lot &) = delete;
+        lot &operator=(const lot &) = delete;
+
+        ~lot() {
+            while (all != nullptr) {
+                const std::unique_ptr<apart> it(all);
+                all = it->next;
+            }
+        }
 
         // Whether this is the process that started the host, and no child, which has none of its threads, and a lock that one may have held.
         bool is_own() const { return process == getpid(); }
 
-        void take_back(alog_client *client) {
+        // Takes back what a thread had, or what was lent for a call.
+        void take_back(apart *one, std::size_t lent) {
             if (!is_own())
                 return;
             const std::lock_guard<std::mutex> guard(lock);
-            free.push_back(client);
-        }
-
-        // Takes back what was lent for a call.
-        void end_loan(alog_client *client) {
-            if (!is_own())
-                return;
-            const std::lock_guard<std::mutex> guard(lock);
-            free.push_back(client);
-            if (--loans == 0)
-                returned.notify_all();
+            one->next_free = free;
+            free = one;
+            loans -= lent;
         }
     };
 
     // A client that a thread has until it ends, of a host that may end before. As long as it points to the lot, no other lot is at its place.
     struct lease {
-        const lot *at;
         std::weak_ptr<lot> from;
-        alog_client *client;
+        const lot *at;
+        apart *one;
+        std::unique_ptr<lease> next;
     };
 
+    // The leases of a thread, one behind the other: a list that is whole while memory for one more is taken, whose handler may log.
     struct lease_list {
-        std::vector<lease> all;
+        std::unique_ptr<lease> first;
+
         ~lease_list() {
             is_over() = true;
-            for (const lease &it : all)
-                if (const std::shared_ptr<lot> from = it.from.lock())
-                    from->take_back(it.client);
+            for (; first != nullptr; drop(first))
+                if (const std::shared_ptr<lot> from = first->from.lock())
+                    from->take_back(first->one, 0);
+        }
+
+        static void drop(std::unique_ptr<lease> &it) {
+            std::unique_ptr<lease> next = std::move(it->next);
+            it = std::move(next);
+        }
+
+        // Lets go of those whose host has ended.
+        void tidy() {
+            for (std::unique_ptr<lease> *at = &first; *at != nullptr;) {
+                if ((*at)->from.expired())
+                    drop(*at);
+                else
+                    at = &(*at)->next;
+            }
         }
     };
 
@@ -201,59 +234,103 @@ class host {
         return list;
     }
 
+    // In a child of a fork its thread has no client any more: what it logs by a host of its parent, as in a destructor, is refused.
+    static void forget() {
+        if (!is_over())
+            while (leases().first != nullptr)
+                lease_list::drop(leases().first);
+    }
+
     // A client for one call.
     struct loan {
         lot &from;
-        alog_client &client;
-        explicit loan(host &of) : from(*of.lot_), client(of.take(1)) {}
-        ~loan() { from.end_loan(&client); }
+        apart &one;
+        explicit loan(host &of) : from(*of.lot_), one(of.take(1)) {}
+        ~loan() { from.take_back(&one, 1); }
         loan(const loan &) = delete;
         loan &operator=(const loan &) = delete;
     };
 
+    // What this call answers under the lock of the clients, of a host that has not ended, nor ends. It throws nothing.
+    template <typename Call> alog_answer entered(const Call &call) {
+        if (!lot_->is_own())
+            return ALOG_NO_HANDLE;
+        const std::lock_guard<std::mutex> guard(lot_->lock);
+        return lot_->is_ending ? ALOG_NO_HANDLE : call();
+    }
+
+    // (a name ends by its first zero there)
+    alog_answer find_in(const std::string &name, std::uint32_t &logger) {
+        return name.find('\0') == std::string::npos ? alog_host_find(&host_, name.c_str(), &logger) : ALOG_NO_LOGGER;
+    }
+
     // The client of this thread.
     alog_client &mine() {
-        for (const lease &it : leases().all)
-            if (it.at == lot_.get())
-                return *it.client;
+        for (const lease *it = leases().first.get(); it != nullptr; it = it->next.get())
+            if (it->at == lot_.get())
+                return it->one->client;
         return lend();
     }
 
     // One for this thread, until it ends.
     alog_client &lend() {
-        std::vector<lease> &all = leases().all;
-        all.erase(std::remove_if(all.begin(), all.end(), [](const lease &it) { return it.from.expired(); }), all.end());
-        all.reserve(all.size() + 1);
-        alog_client &client = take(0);
-        all.push_back({lot_.get(), lot_, &client});
-        return client;
+        lease_list &own = leases();
+        own.tidy();
+        std::unique_ptr<lease> made(new lease{lot_, lot_.get(), nullptr, nullptr});
+        made->one = &take(0);
+        made->next = std::move(own.first);
+        own.first = std::move(made);
+        return own.first->one->client;
     }
 
     // One that no thread has, or a new one; counted where it is a loan.
-    alog_client &take(std::size_t loans) {
-        alog::expect(lot_->is_own() ? ALOG_DONE : ALOG_NO_HANDLE);
-        const std::lock_guard<std::mutex> guard(lot_->lock);
-        alog::expect(lot_->is_ending ? ALOG_NO_HANDLE : ALOG_DONE);
-        if (lot_->free.empty()) {
-            lot_->free.reserve(lot_->clients.size() + 1);
-            lot_->clients.push_back(std::unique_ptr<apart>(new apart{}));
-            lot_->free.push_back(&lot_->clients.back()->client);
+    apart &take(std::size_t loans) {
+        apart *one = nullptr;
+        alog_answer answer = entered([&] { return pick(one, loans); });
+        if (answer == ALOG_DONE && one == nullptr) {
+            std::unique_ptr<apart> made(new apart{});
+            answer = entered([&] { return add(made, one, loans); });
         }
-        alog_client *client = lot_->free.back();
-        if (client->host == nullptr)
-            alog::expect(alog_client_open(&host_, client));
-        lot_->free.pop_back();
-        lot_->loans += loans;
-        return *client;
+        alog::expect(answer);
+        return *one;
+    }
+
+    // Picks the first one that no thread has, where there is one, and opens it, if it is not open. Called under the lock.
+    alog_answer pick(apart *&one, std::size_t loans) {
+        apart *const first = lot_->free;
+        if (first == nullptr)
+            return ALOG_DONE;
+        const alog_answer answer = first->client.host == nullptr ? alog_client_open(&host_, &first->client) : ALOG_DONE;
+        if (answer == ALOG_DONE) {
+            lot_->free = first->next_free;
+            lot_->loans += loans;
+            one = first;
+        }
+        return answer;
+    }
+
+    // Adds one to those that no thread has, and picks it, or another one that came meanwhile. Called under the lock.
+    alog_answer add(std::unique_ptr<apart> &made, apart *&one, std::size_t loans) {
+        made->next = lot_->all;
+        made->next_free = lot_->free;
+        lot_->all = lot_->free = made.release();
+        return pick(one, loans);
     }
 
     // Closes all clients, when those are back that are lent: whoever has one needs at most room for one message, which workers make.
     void close_all() {
-        std::unique_lock<std::mutex> guard(lot_->lock);
-        lot_->is_ending = true;
-        lot_->returned.wait(guard, [this] { return lot_->loans == 0; });
-        for (const std::unique_ptr<apart> &it : lot_->clients)
+        while (ends_beside_loans())
+            std::this_thread::sleep_for(std::chrono::microseconds(100));
+        const std::lock_guard<std::mutex> guard(lot_->lock);
+        for (apart *it = lot_->all; it != nullptr; it = it->next)
             alog_client_close(&it->client);
+    }
+
+    // Lends none any more, and answers whether some are lent.
+    bool ends_beside_loans() {
+        const std::lock_guard<std::mutex> guard(lot_->lock);
+        lot_->is_ending = true;
+        return lot_->loans > 0;
     }
 
     std::atomic<std::uint64_t> refused_{0};

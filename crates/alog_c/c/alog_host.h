@@ -18,7 +18,8 @@
 
    No call is made from a handler of a signal, no thread is cancelled within a call, and a child of a fork uses no host of its parent: it has
    none of its threads. There all calls on that host, and alog_client_close, do nothing, and answer ALOG_NO_HANDLE, but alog_start, which answers
-   ALOG_IN_USE: a child that logs starts a host in a struct of its own. The calls that log do not look.
+   ALOG_IN_USE: a child that logs starts a host in a struct of its own. The calls that log do not look. The child holds the folder with its
+   parent, until it ends or calls exec: while one lives that outlived its server, no other server starts over that folder.
    The threads of workers hold all signals back but those of a fault of their own, as SIGSEGV.
 
    Files. The folder has to be there. It is held by a lock on its file `.alog.lock`, as the program `alog` holds it: two that rotate the same
@@ -31,11 +32,13 @@
    What could not be written is missing, so the last line in front of it may be cut, and the next one then stands behind it without a new line.
    Where a file of a rotation cannot be renamed, say `log.2` to `log.3`, then `log.1` and `log` keep their names too, so that it is not
    replaced, and lines go on into `log` until a later rotation can be made. Older files were renamed by then, and are at each try: so each try
-   may lose the oldest one, though no new one comes. A flush brings lines to the system, and, where the options say `sync`, to the disk, with
+   may lose the oldest one, though no new one comes. No file makes way for one that got nothing: where `log` is absent or empty a rotation
+   is not made, and where the last line of a sink by days was lost no file of it is removed (of up to 16 such sinks; a file that stayed so is
+   not removed later). A folder of the name of a numbered file stays, as a file that cannot be renamed does. A flush brings lines to the system, and, where the options say `sync`, to the disk, with
    the names of the folder; then a file is also brought there before it is closed or renamed.
 
    Areas. Each sink has so many areas of ALOG_AREA bytes (128 KiB), which workers fill and which are empty again when they were taken. A sink
-   that finds none empty is broken for good, so there have to be enough. A worker's call ends so many messages as `batch` says, and behind it
+   that finds none empty is broken for good, which the report alone tells, so there have to be enough. A worker's call ends so many messages as `batch` says, and behind it
    the worker takes all that lies there; while it waits for the lock of the files, at most one call of each worker lies there. A sink gives an
    area away at a flush, and where the next line has no room in it. A call so takes at most an area for each message, one that was begun
    before and one for the flush before it rests: workers * (batch + 2) areas are enough for lines of any length that a pattern may have, even
@@ -65,103 +68,25 @@
 #define ALOG_HOST_H
 
 #include "alog_folder.h"
-#include "alog_parts.h"
+#include "alog_seats.h"
 
 #ifdef __cplusplus
 extern "C" {
 #endif
 
-/* Gives a producer or a worker back, also where others do so at this moment. */
-static inline enum alog_answer alog_give_back(void *part)
+/* Gives back the producers of clients that were closed. */
+static inline enum alog_answer alog_spares_give(alog_host *host)
 {
-    enum alog_answer answer = alog_answer_of(alog_c_give(part));
-    while (answer == ALOG_BUSY_PART) {
-        sched_yield();
-        answer = alog_answer_of(alog_c_give(part));
+    enum alog_answer answer = ALOG_DONE;
+    while (answer == ALOG_DONE && host->spares != NULL) {
+        alog_spare *spare = host->spares;
+        answer = alog_give_back(&spare->producer);
+        if (answer == ALOG_DONE) {
+            host->spares = spare->next;
+            free(spare);
+        }
     }
     return answer;
-}
-
-/* Lets a worker write, and takes what it wrote. It rings for the room that it made, which it may have made though it ended nothing: behind
-   many messages, and whenever it found no more. */
-static inline enum alog_answer alog_seat_work(alog_seat *seat)
-{
-    size_t ended = 0;
-    const enum alog_answer answer = alog_work(&seat->worker, seat->host->batch, &ended);
-    seat->ended += ended;
-    seat->found += ended;
-    if (ended > 0)
-        seat->pauses = 0;
-    if (answer != ALOG_DONE || seat->ended >= seat->host->ring_behind) {
-        alog_bell_ring(&seat->host->room, UINT32_MAX);
-        seat->ended = 0;
-    }
-    alog_host_drain(seat->host);
-    return answer;
-}
-
-/* What a worker's thread does: it works, and sleeps when there is nothing and nothing comes soon, until its host ends. */
-static inline void *alog_seat_run(void *at)
-{
-    alog_seat *seat = ALOG_CAST(alog_seat *, at);
-    alog_bell *bell = &seat->host->work;
-    unsigned yields = 0;
-    uint32_t is_ending;
-    for (;;) {
-        enum alog_answer answer = alog_seat_work(seat);
-        if (answer == ALOG_SOON || answer == ALOG_HELD) {
-            alog_seat_rest(&yields);
-            continue;
-        }
-        yields = 0;
-        if (answer == ALOG_DONE || alog_seat_pauses(seat, seat->host->spins_most))
-            continue;
-        alog_bell_enter(bell);
-        is_ending = __atomic_load_n(&seat->host->is_ending, __ATOMIC_SEQ_CST);
-        answer = alog_seat_work(seat);
-        if (answer == ALOG_IDLE && !is_ending) {
-            alog_bell_sleep(bell);
-            continue;
-        }
-        alog_bell_leave(bell);
-        if (answer == ALOG_IDLE)
-            return NULL;
-    }
-}
-
-/* The signals that a worker's thread holds back, which are the program's: all but those by which a fault of the thread itself is told. */
-static inline void alog_signals_of_worker(sigset_t *to)
-{
-    static const int own[] = {SIGSEGV, SIGBUS, SIGFPE, SIGILL, SIGTRAP, SIGSYS, SIGABRT};
-    size_t number;
-    sigfillset(to);
-    for (number = 0; number < sizeof own / sizeof own[0]; number++)
-        sigdelset(to, own[number]);
-}
-
-/* Starts the thread of a worker. */
-static inline enum alog_answer alog_seat_start(alog_host *host, alog_seat *seat)
-{
-    sigset_t back, before;
-    int failed;
-    enum alog_answer answer = alog_make_worker(&host->pool, &seat->worker);
-    if (answer != ALOG_DONE)
-        return answer;
-    seat->host = host;
-    seat->ended = 0;
-    seat->pauses = 0;
-    seat->spins = ALOG_SPINS_MIN;
-    seat->found = 0;
-    alog_signals_of_worker(&back);
-    pthread_sigmask(SIG_SETMASK, &back, &before);
-    failed = pthread_create(&seat->thread, NULL, alog_seat_run, seat);
-    pthread_sigmask(SIG_SETMASK, &before, NULL);
-    if (failed) {
-        alog_give_back(&seat->worker);
-        return ALOG_NO_THREAD;
-    }
-    host->workers++;
-    return ALOG_DONE;
 }
 
 /* Ends the threads of the workers, when they have written what was logged, and the pool, and does what is left to be done to the files. Where
@@ -177,7 +102,11 @@ static inline enum alog_answer alog_host_end(alog_host *host, alog_report *repor
         alog_give_back(&host->seats[number].worker);
     }
     host->workers = 0;
-    answer = alog_shutdown(&host->pool, report);
+    pthread_mutex_lock(&host->lock);
+    answer = alog_spares_give(host);
+    if (answer == ALOG_DONE)
+        answer = alog_shutdown(&host->pool, report);
+    pthread_mutex_unlock(&host->lock);
     if (answer != ALOG_DONE)
         return answer;
     if (alog_host_drain(host) != ALOG_ENDED)
@@ -233,7 +162,7 @@ static inline enum alog_answer alog_options_test(alog_host *host, const alog_opt
         alog_add_words(host, "a host has 1 to 64 workers");
         answer = ALOG_TOO_MANY;
     } else if (options->producers > ALOG_PRODUCERS_MAX) {
-        alog_add_words(host, "a host has at most 4096 clients in its life");
+        alog_add_words(host, "a host has at most 4096 clients at once");
         answer = ALOG_TOO_MANY;
     } else if (options->areas > 0 && options->areas / options->workers < ALOG_AREAS_MIN) {
         alog_add_words(host, "each worker wants 3 areas of each sink or more");
@@ -257,6 +186,7 @@ static inline enum alog_answer alog_start_with(alog_host *host, const char *docu
     host->told[0] = 0;
     host->folder = host->held = -1;
     host->kept[0] = 0;
+    host->unwritten_count = 0;
     host->is_changed = 0;
     host->failures = 0;
     host->failed_errno = 0;
@@ -274,6 +204,7 @@ static inline enum alog_answer alog_start_with(alog_host *host, const char *docu
     alog_bell_open(&host->room);
     host->workers = 0;
     host->clients = 0;
+    host->spares = NULL;
     host->is_ending = 0;
     host->process = getpid();
     host->is_open = 1;
@@ -296,7 +227,7 @@ static inline enum alog_answer alog_start(alog_host *host, const char *document,
 /* Ends a host whose clients are all closed, when all that was logged is written, and reports what became of it; whether it is in the files,
    alog_failures says. Where a client is open, nothing is done. Where there is no memory to end the pool, the workers have ended by then, and no
    client can be opened. Both are ALOG_PARTS_OUT, and it is to be called again. It is called by one thread, which knows that nobody opens a
-   client of this host meanwhile. */
+   client of this host meanwhile, finds a logger of it or sets a level. */
 static inline enum alog_answer alog_stop(alog_host *host, alog_report *report)
 {
     size_t clients;
@@ -321,14 +252,27 @@ static inline enum alog_answer alog_host_enter(alog_host *host)
     return ALOG_DONE;
 }
 
-/* Opens a client of a host, by whichever thread. A host has as many in its life as its options say. */
+/* A producer for a client: that of one which was closed, or a new one. */
+static inline enum alog_answer alog_client_fill(alog_host *host, alog_producer *to)
+{
+    alog_spare *spare = host->spares;
+    if (spare == NULL || to->kind != 0)
+        return alog_make_producer(&host->pool, to);
+    *to = spare->producer;
+    host->spares = spare->next;
+    free(spare);
+    return ALOG_DONE;
+}
+
+/* Opens a client of a host, by whichever thread. As many are open at once as its options say: the producer of one that is closed goes on to the
+   next one. */
 static inline enum alog_answer alog_client_open(alog_host *host, alog_client *client)
 {
     enum alog_answer answer = client == NULL ? ALOG_NULL : alog_host_enter(host);
     if (answer != ALOG_DONE)
         return answer;
     /* (one that did not end has no workers any more) */
-    answer = __atomic_load_n(&host->is_ending, __ATOMIC_SEQ_CST) ? ALOG_NO_HANDLE : alog_make_producer(&host->pool, &client->producer);
+    answer = __atomic_load_n(&host->is_ending, __ATOMIC_SEQ_CST) ? ALOG_NO_HANDLE : alog_client_fill(host, &client->producer);
     if (answer == ALOG_DONE) {
         client->host = host;
         host->clients++;
@@ -359,6 +303,20 @@ static inline enum alog_answer alog_host_set_level(alog_host *host, uint32_t log
     return answer;
 }
 
+/* Takes the producer of a client that is closed: it is kept for the next one, or given back for good where there is no memory for that. The handle
+   that it lay in is empty then. */
+static inline enum alog_answer alog_client_empty(alog_host *host, alog_producer *from)
+{
+    alog_spare *spare = ALOG_CAST(alog_spare *, malloc(sizeof *spare));
+    if (spare == NULL)
+        return alog_give_back(from);
+    spare->producer = *from;
+    spare->next = host->spares;
+    host->spares = spare;
+    memset(from, 0, sizeof *from);
+    return ALOG_DONE;
+}
+
 /* Closes a client. */
 static inline enum alog_answer alog_client_close(alog_client *client)
 {
@@ -369,7 +327,7 @@ static inline enum alog_answer alog_client_close(alog_client *client)
     if (host == NULL || host->process != getpid())
         return ALOG_NO_HANDLE;
     pthread_mutex_lock(&host->lock);
-    answer = alog_give_back(&client->producer);
+    answer = alog_client_empty(host, &client->producer);
     if (answer == ALOG_DONE) {
         client->host = NULL;
         host->clients--;

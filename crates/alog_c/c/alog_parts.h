@@ -57,15 +57,16 @@ enum { ALOG_TRIES = 8, ALOG_YIELDS = 64, ALOG_REST = 100000 };
    which 64 take one to three microseconds; below how many messages from one pause to the next are few, and from how many on they are enough. */
 enum { ALOG_PAUSES = 4, ALOG_SPINS_MIN = 64, ALOG_SPINS_MAX = 1024, ALOG_FEW = 4, ALOG_ENOUGH = 128 };
 
-/* The file by which a folder is held, which no sink may have, and the longest name that a configuration gives a file. */
+/* The file by which a folder is held, which no sink may have, the longest name that a configuration gives a file, and of how many sinks by days a
+   host remembers that their last line could not be written. */
 #define ALOG_LOCK ".alog.lock"
-enum { ALOG_FOUND_MAX = 64 };
+enum { ALOG_FOUND_MAX = 64, ALOG_UNWRITTEN_MAX = 16 };
 
 /* What a host may be told. */
 typedef struct alog_options {
     /* how many workers, 1 to ALOG_WORKERS_MAX, and at most as many as the configuration says */
     size_t workers;
-    /* how many clients may be opened in its life, at most ALOG_PRODUCERS_MAX; 0 for so many */
+    /* how many clients may be open at once, at most ALOG_PRODUCERS_MAX; 0 for so many */
     size_t producers;
     /* how many areas each sink has, at least ALOG_AREAS_MIN for each worker; 0 for ALOG_AREAS for each */
     size_t areas;
@@ -106,6 +107,18 @@ typedef struct alog_open_file {
     char name[ALOG_NAME_MAX];
 } alog_open_file;
 
+/* A sink by days whose last line could not be written: the name of its file, without a date. */
+typedef struct alog_unwritten {
+    size_t length;
+    char name[ALOG_NAME_MAX];
+} alog_unwritten;
+
+/* A producer of a client that was closed, for the next one that is opened. */
+typedef struct alog_spare {
+    struct alog_spare *next;
+    alog_producer producer;
+} alog_spare;
+
 /* A pool with its workers' threads and its files. */
 typedef struct alog_host {
     alog_pool pool;
@@ -125,6 +138,9 @@ typedef struct alog_host {
     alog_open_file open[ALOG_OPEN_FILES];
     /* the name that a file kept, since its rename failed: no other one gets it before that file has another */
     char kept[ALOG_NAME_MAX + 1];
+    /* the sinks by days whose last line could not be written */
+    alog_unwritten unwritten[ALOG_UNWRITTEN_MAX];
+    size_t unwritten_count;
     /* whether a flush goes to the disk, and whether a file was made, renamed or removed since the names of the folder were brought there */
     uint32_t sync;
     uint32_t is_changed;
@@ -134,7 +150,9 @@ typedef struct alog_host {
     size_t ring_behind;
     /* for how many pause instructions a worker pauses at most */
     unsigned spins_most;
+    /* how many clients are open, and the producers of those that were closed */
     size_t clients;
+    alog_spare *spares;
     uint32_t is_open;
     /* the process that started it, whose child has none of its threads */
     pid_t process;

@@ -208,7 +208,7 @@ static void refusals(const char *folder)
     EXPECT_TEXT(none.told, "a host has 1 to 64 workers");
     EXPECT(alog_start(&none, "", 0, folder, 65), ALOG_TOO_MANY);
     EXPECT(alog_start_with(&none, "", 0, folder, &many), ALOG_TOO_MANY);
-    EXPECT_TEXT(none.told, "a host has at most 4096 clients in its life");
+    EXPECT_TEXT(none.told, "a host has at most 4096 clients at once");
     EXPECT(alog_start_with(&none, "", 0, folder, &few), ALOG_TOO_SHORT);
     EXPECT_TEXT(none.told, "each worker wants 3 areas of each sink or more");
     EXPECT(alog_start(&none, "", 0, NULL, 1), ALOG_NULL);

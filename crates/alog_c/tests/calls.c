@@ -1,4 +1,4 @@
-/* Each call of a host on its files fails in turn, is interrupted, or takes a byte less: calls FOLDER. It is linked with --wrap for write, openat,
+/* Each call of a host on its files fails in turn, is interrupted, or takes a byte or nothing: calls FOLDER. It is linked with --wrap for write, openat,
    renameat, unlinkat, fdatasync, fsync and close, and for the library's take. A call that fails is counted once and the rest goes on; the others
    lose nothing. Each open of a start fails in turn, or is interrupted. What was written is brought to the disk before its file is closed, and so are
    the folder's names. And an end behind which the library does not say that all was taken is a failure. */
@@ -16,8 +16,8 @@ static const char config[] = "queue = 64\n"
                              "[[sink]]\nname = \"c\"\nkind = \"memory\"\nfile = \"c.txt\"\npattern = \"%v\"\n"
                              "[[logger]]\nname = \"net\"\nflush_on = \"info\"\nsinks = [\"a\", \"b\", \"c\"]\n";
 
-/* What becomes of a call: it fails, it is interrupted first, or it is a write that takes a byte. */
-enum way { FAILS, INTERRUPTED, SHORT };
+/* What becomes of a call: it fails, it is interrupted first, or it is a write that takes a byte, or none. */
+enum way { FAILS, INTERRUPTED, SHORT, NOTHING };
 
 static alog_host host;
 /* whether calls are counted, how many there were, which of them it is, from 1 on, and what becomes of it */
@@ -30,13 +30,15 @@ static int is_changed, closed_dirty, was_open;
 /* whether the library is to say that nothing is there where all was taken, and how often it was to say so; and whether the next sync of the folder
    fails */
 static int is_endless, ends, is_refused;
+/* whether a write took nothing */
+static int took_nothing;
 
 /* Whether this call is the one, and of a kind of which that may become. */
 static int is_it(int goes_on, int is_write)
 {
     if (!is_armed || ++calls != wanted)
         return 0;
-    return way == FAILS || (way == INTERRUPTED && goes_on) || (way == SHORT && is_write);
+    return way == FAILS || (way == INTERRUPTED && goes_on) || (way >= SHORT && is_write);
 }
 
 static int refuse(void)
@@ -71,8 +73,10 @@ ssize_t __wrap_write(int descriptor, const void *bytes, size_t length)
 {
     if (descriptor < DESCRIPTORS)
         is_dirty[descriptor] = 1;
-    if (is_it(1, 1))
-        return way == SHORT ? __real_write(descriptor, bytes, 1) : refuse();
+    if (is_it(1, 1)) {
+        took_nothing = way == NOTHING;
+        return way == SHORT ? __real_write(descriptor, bytes, 1) : took_nothing ? 0 : refuse();
+    }
     return __real_write(descriptor, bytes, length);
 }
 
@@ -162,7 +166,7 @@ static int run(const char *folder, int number)
     calls = 0;
     wanted = number;
     is_armed = 1;
-    is_changed = closed_dirty = 0;
+    is_changed = closed_dirty = took_nothing = 0;
     for (int i = 0; i < LINES; i++)
         EXPECT(alog_log_wait(&client, 0, ALOG_INFO, "of ten...", 9), ALOG_DONE);
     EXPECT(alog_client_close(&client), ALOG_DONE);
@@ -172,7 +176,7 @@ static int run(const char *folder, int number)
     EXPECT(report.faults, 0);
     if (calls < number)
         return 0;
-    failures = way == FAILS;
+    failures = way == FAILS || took_nothing;
     if (!EXPECT(host.failures, failures))
         printf("(call %d, way %d)\n", number, (int)way);
     EXPECT(host.failed_errno, failures ? EIO : 0);
@@ -265,10 +269,10 @@ static int begin(const char *folder, int number)
 
 int main(int argc, char **argv)
 {
-    static const char *const ways[] = {"fail", "are interrupted", "take a byte less"};
+    static const char *const ways[] = {"fail", "are interrupted", "take a byte", "take nothing"};
     if (argc != 2)
         return 2;
-    for (int at = FAILS; at <= SHORT; at++) {
+    for (int at = FAILS; at <= NOTHING; at++) {
         int number = 1;
         way = (enum way)at;
         while (run(argv[1], number) && trial_failed < 20)

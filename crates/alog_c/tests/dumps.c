@@ -76,6 +76,8 @@ static alog_host host;
 
 struct task {
     pthread_t thread;
+    /* the number of its first text */
+    int first;
     unsigned long others;
 };
 
@@ -85,7 +87,7 @@ static void *run(void *at)
     alog_client client = {NULL, {0, NULL}};
     task->others += alog_client_open(&host, &client) != ALOG_DONE;
     for (int i = 0; i < EACH; i++) {
-        task->others += alog_log_wait(&client, 0, ALOG_DEBUG, "kept", 4) != ALOG_FILTERED;
+        task->others += alog_printf(&client, 0, ALOG_DEBUG, "kept %d", task->first + i) != ALOG_FILTERED;
         if (i % KEEPS == 0)
             task->others += alog_dump_now(&client, 0) != ALOG_DONE;
     }
@@ -104,19 +106,38 @@ static unsigned long count_of(const char *all, const char *text)
     return count;
 }
 
+/* How many of the texts that were kept are in these lines, each at most once. */
+static unsigned long kept_in(const char *lines)
+{
+    static char is_there[THREADS * EACH];
+    unsigned long count = 0, again = 0;
+    while ((lines = strstr(lines, "kept ")) != NULL) {
+        const long number = strtol(lines += 5, NULL, 10);
+        const int is_known = number >= 0 && number < THREADS * EACH;
+        again += !is_known || is_there[number];
+        if (is_known)
+            is_there[number] = 1;
+        count++;
+    }
+    EXPECT(again, 0);
+    return count;
+}
+
 /* Threads keep and dump at once. No message is dumped twice, and what was posted is in the file. */
 static void threads(const char *folder)
 {
     static const char two_workers[] = "queue = 4096\nworkers = 2\n[[sink]]\nname = \"file\"\nkind = \"memory\"\npattern = \"%v\"\n"
                                       "[[logger]]\nname = \"net\"\nsinks = [\"file\"]\nbacktrace = 5\n";
-    struct task tasks[THREADS] = {{0, 0}};
+    struct task tasks[THREADS] = {{0, 0, 0}};
     alog_report report;
     size_t length;
     char *bytes;
     unsigned long kept, starts, ends;
     EXPECT(alog_start(&host, two_workers, strlen(two_workers), folder, 2), ALOG_DONE);
-    for (int i = 0; i < THREADS; i++)
+    for (int i = 0; i < THREADS; i++) {
+        tasks[i].first = i * EACH;
         EXPECT(pthread_create(&tasks[i].thread, NULL, run, &tasks[i]), 0);
+    }
     for (int i = 0; i < THREADS; i++) {
         pthread_join(tasks[i].thread, NULL);
         EXPECT(tasks[i].others, 0);
@@ -125,11 +146,11 @@ static void threads(const char *folder)
     EXPECT(report.faults + host.failures, 0);
     EXPECT(report.handled, report.posted);
     bytes = bytes_of(path_of(folder, "file"), &length);
-    kept = count_of(bytes, "kept\n");
+    kept = kept_in(bytes);
     starts = count_of(bytes, "=== backtrace start ===\n");
     ends = count_of(bytes, "=== backtrace end ===\n");
     EXPECT(kept + starts + ends, report.handled);
-    EXPECT(kept <= THREADS * EACH && starts <= THREADS * EACH / KEEPS && ends <= THREADS * EACH / KEEPS, 1);
+    EXPECT(kept > 0 && starts <= THREADS * EACH / KEEPS && ends <= THREADS * EACH / KEEPS, 1);
     if (report.discarded == 0)
         EXPECT(starts, ends);
     free(bytes);

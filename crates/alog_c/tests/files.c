@@ -1,9 +1,10 @@
 /* What a host makes of the files of a folder: files FOLDER. Rotating files, over some starts, by a model that does what the configuration says;
-   files by days; more files than are open at once; and texts that are formatted. */
-#define _POSIX_C_SOURCE 200809L
+   files by days; more files than are open at once; files that are good while nothing can be written; and texts that are formatted. */
+#define _GNU_SOURCE
 #include "alog_host.h"
 #include "trial.h"
 
+#include <sys/resource.h>
 #include <wchar.h>
 
 enum { NAMES = 20, KEPT = 3 };
@@ -22,14 +23,22 @@ static void start(const char *config)
     EXPECT(host.batch, 14);
 }
 
-static void stop(uint64_t messages)
+/* Ends the host behind so many messages, where calls on files failed, the first of them for this reason, or none, which is 0. */
+static void end(uint64_t messages, int reason)
 {
     alog_report report;
+    int error = 0;
     EXPECT(alog_client_close(&client), ALOG_DONE);
     EXPECT(alog_stop(&host, &report), ALOG_DONE);
     EXPECT(report.handled, messages);
     EXPECT(report.faults, 0);
-    EXPECT(host.failures, 0);
+    EXPECT(alog_failures(&host, &error) > 0, reason != 0);
+    EXPECT(error, reason);
+}
+
+static void stop(uint64_t messages)
+{
+    end(messages, 0);
 }
 
 static void log_text(const char *text, int64_t time)
@@ -109,7 +118,7 @@ static void rotations(const char *folder, const char *name)
                 expect_file(numbered[i], model[i]);
     }
     EXPECT(is_there("log.4.txt"), 0);
-    /* one that is too large when a host starts makes way for the first line, and one that is a link is not looked at */
+    /* one that is too large when a host starts makes way for the first line */
     snprintf(model[0], sizeof model[0], "%0900d\n", 0);
     file = fopen(path_of(place, "log.txt"), "w");
     fputs(model[0], file);
@@ -222,6 +231,148 @@ static void strangers(const char *folder)
     EXPECT(is_there(longest) && is_there("\xff\xfe") && is_there("folder") && is_there("link"), 1);
 }
 
+/* So many bytes a file may have from now on. */
+static void limit(rlim_t most)
+{
+    struct rlimit now;
+    EXPECT(getrlimit(RLIMIT_FSIZE, &now), 0);
+    now.rlim_cur = most;
+    EXPECT(setrlimit(RLIMIT_FSIZE, &now), 0);
+}
+
+static void wait_a_little(void)
+{
+    const struct timespec millisecond = {0, 1000000};
+    nanosleep(&millisecond, NULL);
+}
+
+/* Waits until a file has something, ten seconds at the most. */
+static void wait_for_file(const char *name)
+{
+    struct stat found = {0};
+    for (int tries = 0; tries < 10000 && (stat(path_of(place, name), &found) != 0 || found.st_size == 0); tries++)
+        wait_a_little();
+    EXPECT(found.st_size > 0, 1);
+}
+
+/* Waits until so many calls failed, ten seconds at the most. */
+static void wait_for_failures(uint64_t count)
+{
+    for (int tries = 0; tries < 10000 && alog_failures(&host, NULL) < count; tries++)
+        wait_a_little();
+    EXPECT(alog_failures(&host, NULL), count);
+}
+
+static const char two_numbers[] = "queue = 64\n[[sink]]\nname = \"a\"\nkind = \"rotating\"\nfile = \"log.v2\"\npattern = \"%v\"\n"
+                                  "max_size = 14\nmax_files = 2\n[[logger]]\nname = \"net\"\nsinks = [\"a\"]\n";
+
+/* Lines of seven bytes, with these numbers. */
+static void log_numbers(int from, int to)
+{
+    for (int number = from; number <= to; number++) {
+        char text[20];
+        snprintf(text, sizeof text, "line %d", number);
+        log_text(text, 0);
+    }
+}
+
+/* While nothing can be written, no file makes way for an empty one; behind that lines go on there. */
+static void rotations_in_vain(const char *folder)
+{
+    enter(folder, "vain");
+    start(two_numbers);
+    log_numbers(1, 6);
+    stop(6);
+    limit(0);
+    start(two_numbers);
+    log_numbers(1, 6);
+    end(6, EFBIG);
+    limit(RLIM_INFINITY);
+    expect_file("log.1.v2", "line 5\nline 6\n");
+    expect_file("log.2.v2", "line 3\nline 4\n");
+    start(two_numbers);
+    log_numbers(7, 8);
+    wait_for_file("log.v2");
+    /* nor for one that somebody removed; what comes next is in a new one */
+    EXPECT(remove(path_of(place, "log.v2")), 0);
+    log_numbers(9, 9);
+    stop(3);
+    expect_file("log.v2", "line 9\n");
+    expect_file("log.1.v2", "line 5\nline 6\n");
+    expect_file("log.2.v2", "line 3\nline 4\n");
+}
+
+/* The same of files by days, of which two stay: none goes while the last line was lost. */
+static void days_in_vain(const char *folder)
+{
+    static const int64_t day = 86400000000000;
+    static const char config[] = "queue = 64\n[[sink]]\nname = \"a\"\nkind = \"daily\"\nfile = \"log.txt\"\npattern = \"%v\"\nmax_files = 2\n"
+                                 "[[logger]]\nname = \"net\"\nsinks = [\"a\"]\n";
+    enter(folder, "vain_days");
+    start(config);
+    log_text("first", 0);
+    log_text("second", day);
+    wait_for_file("log_1970-01-02.txt");
+    limit(0);
+    for (int number = 2; number < 5; number++)
+        log_text("lost", number * day);
+    wait_for_failures(3);
+    limit(RLIM_INFINITY);
+    log_text("sixth", 5 * day);
+    wait_for_file("log_1970-01-06.txt");
+    log_text("seventh", 6 * day);
+    end(7, EFBIG);
+    EXPECT(host.failures, 3);
+    EXPECT(is_there("log_1970-01-01.txt"), 0);
+    expect_file("log_1970-01-02.txt", "second\n");
+    expect_file("log_1970-01-03.txt", "");
+    expect_file("log_1970-01-04.txt", "");
+    EXPECT(is_there("log_1970-01-03.txt") && is_there("log_1970-01-04.txt"), 1);
+    EXPECT(is_there("log_1970-01-05.txt"), 0);
+    expect_file("log_1970-01-06.txt", "sixth\n");
+    expect_file("log_1970-01-07.txt", "seventh\n");
+}
+
+/* A folder of the name of a numbered file stays where it is, and lines go on in the file without a number. */
+static void folder_in_the_way(const char *folder)
+{
+    struct stat found;
+    enter(folder, "in_the_way");
+    EXPECT(mkdir(path_of(place, "log.1.v2"), 0777), 0);
+    start(two_numbers);
+    log_numbers(1, 3);
+    end(3, EISDIR);
+    EXPECT(host.failures, 1);
+    expect_file("log.v2", "line 1\nline 2\nline 3\n");
+    EXPECT(lstat(path_of(place, "log.1.v2"), &found) == 0 && S_ISDIR(found.st_mode), 1);
+    EXPECT(is_there("log.2.v2"), 0);
+}
+
+static int leased;
+
+static void give_up(int signal)
+{
+    (void)signal;
+    fcntl(leased, F_SETLEASE, F_UNLCK);
+}
+
+/* A file that somebody holds by a lease, as servers of files do, is waited for. (Where there are no leases, it is a file as any other.) */
+static void leases(const char *folder)
+{
+    static const char config[] = "[[sink]]\nname = \"a\"\nkind = \"memory\"\nfile = \"log.txt\"\npattern = \"%v\"\n"
+                                 "[[logger]]\nname = \"l\"\nsinks = [\"a\"]\n";
+    enter(folder, "leases");
+    fclose(fopen(path_of(place, "log.txt"), "w"));
+    leased = open(path_of(place, "log.txt"), O_RDONLY);
+    signal(SIGIO, give_up);
+    start(config);
+    fcntl(leased, F_SETLEASE, F_RDLCK);
+    log_text("x", 0);
+    stop(1);
+    close(leased);
+    expect_file("log.txt", "x\n");
+}
+
 /* Texts that are formatted, as long as a text may be and longer, and that cannot be; what is refused is in no file. */
 static void prints(const char *folder)
 {
@@ -285,6 +436,11 @@ int main(int argc, char **argv)
     days(argv[1], "last_day", 1);
     many_files(argv[1], "many", 300);
     strangers(argv[1]);
+    signal(SIGXFSZ, SIG_IGN);
+    rotations_in_vain(argv[1]);
+    days_in_vain(argv[1]);
+    folder_in_the_way(argv[1]);
+    leases(argv[1]);
     prints(argv[1]);
     closed_streams(argv[1]);
     is_synced = 1;

@@ -160,6 +160,7 @@ static void wrong(void)
 /* Any bytes: it ends, and a record lies within them. */
 static void any(void)
 {
+    unsigned long found = 0;
     uint32_t state = 1;
     for (int round = 0; round < 100000; round++) {
         alog_record it;
@@ -174,12 +175,12 @@ static void any(void)
             state = state * 1664525 + 1013904223;
             bytes[i] = (char)(i % 4 > 0 && i < 16 ? 0 : state >> 24 & (i < 16 ? 7 : 255));
         }
-        while (alog_next_record(bytes, length, &at, &it) > 0)
+        for (; alog_next_record(bytes, length, &at, &it) > 0; found++)
             if (at > length || it.name < bytes || it.rest + it.rest_length > bytes + length)
                 EXPECT(round, 0);
         free(bytes);
     }
-    EXPECT(1, 1);
+    EXPECT(found > 0, 1);
 }
 
 int main(int argc, char **argv)

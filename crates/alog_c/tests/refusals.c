@@ -1,4 +1,5 @@
 /* Each call of the library with what it may not be given, and that nothing comes of it: refusals FOLDER. The folder is not used. */
+#include "said.h"
 #include "taken.h"
 
 static const char config[] = "queue = 4\n"
@@ -414,19 +415,15 @@ static void ends(void)
     EXPECT(alog_close(&files), ALOG_DONE);
 }
 
-/* Each answer has a sentence of its own. */
+/* Each answer has a sentence of its own, and what is none has that. */
 static void sentences(void)
 {
-    static const char none[] = "There is no such answer.";
-    uint32_t at, other;
-    EXPECT_TEXT(alog_says(ALOG_DONE), "It was done.");
-    for (at = 0; at < 40; at++) {
-        const char *says = alog_says(alog_answer_of(at));
-        int is_answer = at < 11 || (at >= 14 && at < 31);
-        EXPECT(strcmp(says, none) != 0, is_answer);
-        for (other = 0; other < at && is_answer; other++)
-            if (strcmp(says, alog_says(alog_answer_of(other))) == 0)
-                EXPECT(at, other);
+    for (uint32_t at = 0; at < 40; at++) {
+        const char *wanted = "There is no such answer.";
+        for (size_t row = 0; row < sizeof said / sizeof said[0]; row++)
+            if (said[row].answer == alog_answer_of(at))
+                wanted = said[row].words;
+        EXPECT_TEXT(alog_says(alog_answer_of(at)), wanted);
     }
 }
 

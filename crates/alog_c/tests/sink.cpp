@@ -1,38 +1,17 @@
 // The sink for spdlog: threads that come and go, levels, sources, and what is refused: sink FOLDER
 #include "alog_spdlog.h"
-#include "trial.h"
+#include "trial.hpp"
 
 #include <string>
 #include <thread>
 #include <vector>
 
 #include <malloc.h>
-#include <signal.h>
-#include <sys/wait.h>
-
-// (under a sanitizer a child that ends by exit ends otherwise)
-#if defined(__SANITIZE_ADDRESS__) || defined(__SANITIZE_THREAD__)
-#define IS_SANITIZED
-#elif defined(__has_feature)
-#if __has_feature(address_sanitizer) || __has_feature(thread_sanitizer)
-#define IS_SANITIZED
-#endif
-#endif
 
 namespace {
 
 const std::string config = "queue = 64\nworkers = 2\ntext = 100\n[[sink]]\nname = \"file\"\nkind = \"memory\"\nfile = \"log.txt\"\npattern = \"%n %L %s:%# %v\"\n"
                            "[[logger]]\nname = \"net\"\nsinks = [\"file\"]\n[[logger]]\nname = \"disk\"\nlevel = \"error\"\nsinks = [\"file\"]\n";
-
-// What a call throws, or nothing.
-template <typename Call> std::string thrown(Call call) {
-    try {
-        call();
-    } catch (const alog::error &error) {
-        return error.what();
-    }
-    return "";
-}
 
 std::string content(const std::string &folder) {
     std::size_t length = 0;
@@ -103,6 +82,25 @@ void messages(const std::string &folder) {
     EXPECT(host->failures(first_errno), 0);
     EXPECT(first_errno, 0);
     EXPECT(thrown([&host] { host->stop(); }).empty(), 0);
+}
+
+// The time of a message is spdlog's, to the nanosecond; a logger has its name; and what is no host, or has ended, is refused.
+void times_and_names(const std::string &folder) {
+    const auto host = alog::make_host("[[sink]]\nname = \"file\"\nkind = \"memory\"\nfile = \"log.txt\"\npattern = \"%E.%F %v\"\n"
+                                      "[[logger]]\nname = \"net\"\nsinks = [\"file\"]\n",
+                                      folder, 1);
+    const auto net = alog::make_logger(host, "net");
+    std::vector<std::string> errors;
+    net->set_error_handler([&errors](const std::string &words) { errors.push_back(words); });
+    std::remove(path_of(folder.c_str(), "log.txt"));
+    EXPECT_TEXT(net->name().c_str(), "net");
+    const std::chrono::nanoseconds time(1706974546123456789);
+    net->log(spdlog::log_clock::time_point(std::chrono::duration_cast<spdlog::log_clock::duration>(time)), spdlog::source_loc{}, spdlog::level::info, "x");
+    EXPECT_TEXT(thrown([] { alog::make_logger(nullptr, "net"); }).c_str(), "alog: A pointer is null.");
+    EXPECT(host->stop().handled, 1);
+    EXPECT_TEXT(content(folder).c_str(), "1706974546.123456789 x\n");
+    net->flush();
+    EXPECT(errors.size(), 1);
 }
 
 // A source without names, and one that is too long or no UTF-8, without which the message goes.
@@ -177,18 +175,6 @@ void one_client(const std::string &folder) {
 }
 
 #ifndef IS_SANITIZED
-// Whether a child has ended by itself within five seconds; one that has not is ended.
-bool has_ended(pid_t child) {
-    for (int i = 0; i < 5000 && trial_failed < 8; i++) {
-        if (waitpid(child, nullptr, WNOHANG) == child)
-            return true;
-        std::this_thread::sleep_for(std::chrono::milliseconds(1));
-    }
-    kill(child, SIGKILL);
-    waitpid(child, nullptr, 0);
-    return false;
-}
-
 // Children that end by exit, which destroys their copy of a host: they end, and write nothing.
 void children(const std::string &folder) {
     static std::shared_ptr<alog::host> host;
@@ -234,7 +220,7 @@ void hosts_that_come_and_go(const std::string &folder) {
     const std::size_t before = allocated();
     for (int round = 0; round < 50; round++)
         one_host(folder);
-    EXPECT(allocated() < before + 50 * 1000, 1);
+    EXPECT(allocated() < before + 50 * 100, 1);
 }
 
 void refusals(const std::string &folder) {
@@ -256,6 +242,7 @@ int main(int argc, char **argv) {
         return 2;
     threads_that_come_and_go(argv[1]);
     messages(argv[1]);
+    times_and_names(argv[1]);
     sources(argv[1]);
     ends_of_threads(argv[1]);
     one_client(argv[1]);

@@ -1,0 +1,248 @@
+// Clients of threads in C++: a host that ends beside others, children of a fork, a handler of operator new that logs, and what is refused and in which
+// words: clients FOLDER
+#include "alog_fmt.h"
+#include "trial.hpp"
+
+#include <atomic>
+#include <cstdlib>
+#include <new>
+#include <string>
+#include <thread>
+
+#ifndef HAS_NO_NEW
+namespace {
+
+// Which allocation of this thread fails next, from 0 on; none where it is less.
+thread_local int failing = -1;
+
+void *allocated(std::size_t size) {
+    for (;;) {
+        void *const got = failing-- == 0 ? nullptr : std::malloc(size > 0 ? size : 1);
+        const std::new_handler handler = std::get_new_handler();
+        if (got != nullptr)
+            return got;
+        if (handler == nullptr)
+            throw std::bad_alloc();
+        handler();
+    }
+}
+
+} // namespace
+
+// (where one of them is inlined and the other is not, gcc takes them for two that do not match)
+__attribute__((noinline)) void *operator new(std::size_t size) { return allocated(size); }
+__attribute__((noinline)) void operator delete(void *at) noexcept { std::free(at); }
+__attribute__((noinline)) void operator delete(void *at, std::size_t) noexcept { std::free(at); }
+#endif
+
+// A value that cannot be formatted for want of memory.
+struct large {};
+
+template <> struct fmt::formatter<large> : fmt::formatter<int> {
+    template <typename Context> auto format(const large &, Context &context) const -> decltype(context.out()) {
+        throw std::bad_alloc();
+        return context.out();
+    }
+};
+
+namespace {
+
+const std::string config = "queue = 2\n[[sink]]\nname = \"file\"\nkind = \"memory\"\nfile = \"log.txt\"\npattern = \"%v %s %!\"\n"
+                           "[[logger]]\nname = \"net\"\nsinks = [\"file\"]\n";
+
+// Who sets levels and finds loggers while a host stops is refused at its end, and the stop goes.
+void calls_beside_stop(const std::string &folder) {
+    for (int round = 0; round < 100; round++) {
+        const auto host = alog::make_host(config, folder, 1);
+        std::atomic<bool> has_begun{false};
+        std::string words;
+        std::thread thread([&host, &has_begun, &words] {
+            words = thrown([&host, &has_begun] {
+                for (;; has_begun = true) {
+                    host->set_level("net", ALOG_INFO);
+                    host->find("net");
+                }
+            });
+        });
+        while (!has_begun)
+            std::this_thread::yield();
+        EXPECT(thrown([&host] { host->stop(); }).empty(), 1);
+        thread.join();
+        EXPECT_TEXT(words.c_str(), "alog: The handle holds nothing. net");
+    }
+}
+
+#ifndef HAS_NO_NEW
+const alog::logger *short_of_memory;
+
+void log_once() {
+    failing = -1;
+    std::set_new_handler(nullptr);
+    EXPECT(short_of_memory->critical("memory is short"), ALOG_DONE);
+}
+
+// A handler that logs may do so wherever its thread's first log wants memory.
+void handlers_of_memory(const std::string &folder) {
+    std::uint64_t handled = 2;
+    for (int number = 0; handled == 2; number++) {
+        const auto host = alog::make_host(config, folder, 1);
+        const alog::logger net(host, "net");
+        short_of_memory = &net;
+        std::thread([&net, number] {
+            std::set_new_handler(log_once);
+            failing = number;
+            EXPECT(net.info("x"), ALOG_DONE);
+            failing = -1;
+            std::set_new_handler(nullptr);
+        }).join();
+        handled = host->stop().handled;
+        EXPECT(number < 20, 1);
+    }
+    EXPECT(handled, 1);
+}
+#endif
+
+// What is refused, in which words, and what a source shows.
+void refusals(const std::string &folder) {
+    const auto host = alog::make_host(config, folder, 1);
+    const alog::logger net(host, "net");
+    EXPECT(alog::is_refusal(ALOG_NO_THREAD), 1);
+    EXPECT(alog::is_refusal(ALOG_ENDED), 0);
+    EXPECT_TEXT(thrown([&host] { host->set_level("net", static_cast<alog_level>(7)); }).c_str(), "alog: There is no such level. net");
+    EXPECT_TEXT(thrown([&host] { host->find("nobody"); }).c_str(), "alog: There is no such logger. nobody");
+    EXPECT(net.info("{}", large()), ALOG_NO_MEMORY);
+    std::remove(path_of(folder.c_str(), "log.txt"));
+    EXPECT(net.log(ALOG_HERE, ALOG_INFO, "here"), ALOG_DONE);
+    EXPECT(host->stop().handled, 1);
+    EXPECT_TEXT(thrown([&host] { host->stop(); }).c_str(), "alog: The handle holds nothing.");
+    EXPECT_TEXT(thrown([&host] { host->find("net"); }).c_str(), "alog: The handle holds nothing. net");
+    std::size_t length = 0;
+    char *bytes = bytes_of(path_of(folder.c_str(), "log.txt"), &length);
+    EXPECT_TEXT(bytes, "here clients.cpp refusals\n");
+    std::free(bytes);
+}
+
+// What holds the client that was lent to it when its thread ends, until it may end.
+struct holds {
+    alog::host &host;
+    std::atomic<bool> &is_lent, &may_end;
+    ~holds() {
+        host.with_client([this](alog_client &) {
+            for (is_lent = true; !may_end;)
+                std::this_thread::yield();
+            return ALOG_DONE;
+        });
+    }
+};
+
+// A host does not end while a client is lent.
+void stops_behind_loans(const std::string &folder) {
+    const auto host = alog::make_host(config, folder, 1);
+    std::atomic<bool> is_lent{false}, may_end{false}, has_ended{false};
+    std::thread lender([&host, &is_lent, &may_end] {
+        static thread_local const holds behind{*host, is_lent, may_end};
+        EXPECT(alog::logger(host, "net").info("{}", !behind.is_lent), ALOG_DONE);
+    });
+    while (!is_lent)
+        std::this_thread::yield();
+    std::thread stopper([&host, &has_ended] {
+        EXPECT(host->stop().handled, 1);
+        has_ended = true;
+    });
+    std::this_thread::sleep_for(std::chrono::milliseconds(20));
+    EXPECT(has_ended, 0);
+    may_end = true;
+    lender.join();
+    stopper.join();
+}
+
+// A file that cannot be written is told.
+void failures(const std::string &folder) {
+    const std::string place = folder + "/failures";
+    EXPECT(trial_folder(place.c_str()), 0);
+    const auto host = alog::make_host(config, place, 1);
+    const alog::logger net(host, "net");
+    int first = 0;
+    EXPECT(trial_folder((place + "/log.txt").c_str()), 0);
+    EXPECT(net.info("x"), ALOG_DONE);
+    EXPECT(host->stop().handled, 1);
+    EXPECT(host->failures(), 1);
+    EXPECT(host->failures(first), 1);
+    EXPECT(first, EISDIR);
+}
+
+#ifndef IS_SANITIZED
+// What logs more than there is room for when its thread ends.
+struct late {
+    const alog::logger &to;
+    const pid_t process;
+    ~late() {
+        for (int i = 0; i < 4; i++)
+            if (to.info("late") != (process == getpid() ? ALOG_DONE : ALOG_NO_HANDLE))
+                std::_Exit(1);
+    }
+};
+
+// A child that ends by exit logs in destructors of its thread, where that is refused; and what it asks of its parent's host is refused, too.
+void children(const std::string &folder) {
+    const auto host = alog::make_host(config, folder, 1);
+    const alog::logger net(host, "net");
+    std::thread([&host, &net] {
+        static thread_local const late own{net, getpid()};
+        EXPECT(net.info("{}", own.process == getpid()), ALOG_DONE);
+        pid_t child = fork();
+        if (child == 0)
+            std::exit(0);
+        EXPECT(has_ended(child), 1);
+        child = fork();
+        if (child == 0)
+            std::_Exit(thrown([&host] { host->stop(); }).empty() || thrown([&host] { host->find("net"); }).empty() || net.info("x") != ALOG_NO_HANDLE);
+        EXPECT(has_ended(child), 1);
+    }).join();
+    EXPECT(host->stop().handled, 5);
+}
+
+// A child of a host that waits for what is lent ends, though its copy of the host is destroyed.
+void children_beside_stop(const std::string &folder) {
+    static std::shared_ptr<alog::host> host;
+    host = alog::make_host(config, folder, 1);
+    std::atomic<bool> is_lent{false}, may_end{false};
+    std::thread lender([&is_lent, &may_end] {
+        static thread_local const holds behind{*host, is_lent, may_end};
+        EXPECT(alog::logger(host, "net").info("{}", !behind.is_lent), ALOG_DONE);
+    });
+    while (!is_lent)
+        std::this_thread::yield();
+    std::thread stopper([] { EXPECT(host->stop().handled, 1); });
+    std::this_thread::sleep_for(std::chrono::milliseconds(20));
+    const pid_t child = fork();
+    if (child == 0) {
+        host.reset();
+        std::_Exit(0);
+    }
+    EXPECT(has_ended(child), 1);
+    may_end = true;
+    lender.join();
+    stopper.join();
+    host.reset();
+}
+#endif
+
+} // namespace
+
+int main(int argc, char **argv) {
+    if (argc != 2)
+        return 2;
+    calls_beside_stop(argv[1]);
+#ifndef HAS_NO_NEW
+    handlers_of_memory(argv[1]);
+#endif
+    refusals(argv[1]);
+    stops_behind_loans(argv[1]);
+    failures(argv[1]);
+#ifndef IS_SANITIZED
+    children(argv[1]);
+    children_beside_stop(argv[1]);
+#endif
+    return trial_end();
+}
