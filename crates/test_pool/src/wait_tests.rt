@@ -59,3 +59,15 @@ fn rests_where_the_queue_is_idle_alone(rt: HostRuntime) {
     has_slept(&rt, &mut wait, &clock, PopError::Idle { next: 7 }, slept);
     has_slept(&rt, &mut wait, &clock, PopError::Empty { next: 7 }, slept);
 }
+
+#[test]
+fn rests_longer_beside_others(rt: HostRuntime) {
+    let clock = Stopped {
+        sleeps: AtomicU64::new(0),
+        micros: AtomicU64::new(0),
+    };
+    let mut wait = ItemWait::new(2);
+    // The ninth sleep and all behind it take eight thousand microseconds, four thousand for each worker.
+    let slept = (985, 7_828_750);
+    has_slept(&rt, &mut wait, &clock, PopError::Idle { next: 7 }, slept);
+}
