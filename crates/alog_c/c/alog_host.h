@@ -171,6 +171,18 @@ static inline enum alog_answer alog_options_test(alog_host *host, const alog_opt
     return answer;
 }
 
+/* Forgets what a host was told and met before. */
+static inline void alog_host_clear(alog_host *host)
+{
+    host->told[0] = 0;
+    host->folder = host->held = -1;
+    host->kept[0] = 0;
+    host->unwritten_count = 0;
+    host->is_changed = 0;
+    host->failures = 0;
+    host->failed_errno = 0;
+}
+
 /* Opens a pool over the files of a folder, and starts its workers. Where that is refused, nothing is left of it but the file of the folder's
    lock, and `host->told` says why, where words are known. (Where there is no thread and then no memory to end the pool again, alog_stop has to
    be called.) */
@@ -183,13 +195,7 @@ static inline enum alog_answer alog_start_with(alog_host *host, const char *docu
         return ALOG_NULL;
     if (host->is_open)
         return ALOG_IN_USE;
-    host->told[0] = 0;
-    host->folder = host->held = -1;
-    host->kept[0] = 0;
-    host->unwritten_count = 0;
-    host->is_changed = 0;
-    host->failures = 0;
-    host->failed_errno = 0;
+    alog_host_clear(host);
     answer = alog_options_test(host, options);
     if (answer != ALOG_DONE)
         return answer;
