@@ -29,6 +29,7 @@ COMPILERS = {"gcc": "g++", "clang": "clang++"}
 WRAPPED = "-Wl,--wrap=malloc,--wrap=realloc,--wrap=free"
 TAKEN = "-Wl,--wrap=malloc,--wrap=realloc,--wrap=alog_c_shutdown"
 CALLS = "-Wl,--wrap=write,--wrap=openat,--wrap=renameat,--wrap=unlinkat,--wrap=fdatasync,--wrap=fsync,--wrap=close,--wrap=alog_c_take"
+MOVED = "-Wl,--wrap=renameat,--wrap=write"
 # where spdlog and fmt are, whose programs are left out where they are not there, and what their libraries want, which are compiled faster than
 # their headers
 SPDLOG, FMT = "/usr/include/spdlog/spdlog.h", "/usr/include/fmt/format.h"
@@ -51,6 +52,7 @@ PROGRAMS = [
     Program("files", [[]], [], True),
     Program("faults", [[]], [], True),
     Program("calls", [[]], [CALLS], False),
+    Program("stays", [[]], [MOVED], False),
     Program("gives", [[]], [], True),
     Program("forks", [[]], [], False),
     Program("bells", [[]], [], True),

@@ -180,13 +180,13 @@ static inline size_t alog_ending_of(const char *name, size_t length)
     return at > 0 ? at - 1 : length;
 }
 
-/* How many bytes the number of a rotation takes at the end of these, with the point in front of it: 0 where there is none. */
+/* How many bytes the number of a rotation takes at the end of these, with the point in front of it: 0 where there is none, or nothing in front. */
 static inline size_t alog_number_behind(const char *bytes, size_t length)
 {
     size_t at = length;
     while (at > 0 && bytes[at - 1] >= '0' && bytes[at - 1] <= '9')
         at--;
-    return at > 0 && at < length && bytes[at - 1] == '.' ? length - at + 1 : 0;
+    return at > 1 && at < length && bytes[at - 1] == '.' ? length - at + 1 : 0;
 }
 
 /* The same of a date, as `_2026-11-30`. */
@@ -205,32 +205,69 @@ static inline size_t alog_date_behind(const char *bytes, size_t length)
     return size;
 }
 
-/* The name of a sink's file without what this finds in front of its ending or at its end: its length, or 0 where nothing is found. A sink puts
-   a number or a date in front of the ending, where its file has one. */
+/* Where what this finds in the name of a sink's file ends, in front of its ending or at its end, and how many bytes that has, or 0. A sink puts a
+   number or a date in front of the ending, where its file has one. */
+static inline size_t alog_mark_end(const char *name, size_t length, size_t (*behind)(const char *, size_t), size_t *more)
+{
+    const size_t ending = alog_ending_of(name, length);
+    *more = behind(name, ending);
+    if (*more > 0)
+        return ending;
+    *more = behind(name, length);
+    return length;
+}
+
+/* The name of a sink's file without what this finds in it: its length, or 0 where nothing is found. */
 static inline size_t alog_without(char *to, const char *name, size_t length, size_t (*behind)(const char *, size_t))
 {
-    size_t ending = alog_ending_of(name, length), more = behind(name, ending);
-    if (more == 0) {
-        ending = length;
-        more = behind(name, ending);
-    }
+    size_t more;
+    const size_t end = alog_mark_end(name, length, behind, &more);
     if (more == 0)
         return 0;
-    memcpy(to, name, ending - more);
-    memcpy(to + ending - more, name + ending, length - ending);
+    memcpy(to, name, end - more);
+    memcpy(to + end - more, name + end, length - end);
     return length - more;
 }
 
-/* The note that the last line of a sink by days could not be written, or null; by the name of its file without a date. */
-static inline alog_unwritten *alog_unwritten_find(alog_host *host, const char *name, size_t length)
+/* The number of a file of a rotation; 0 where its name has none. */
+static inline uint32_t alog_number_of(const char *name, size_t length)
+{
+    size_t more, at;
+    const size_t end = alog_mark_end(name, length, alog_number_behind, &more);
+    uint32_t number = 0;
+    for (at = end - more + 1; at < end; at++)
+        number = number * 10 + ALOG_CAST(uint32_t, name[at] - '0');
+    return number;
+}
+
+/* The note of the sink whose file has this name, or null. */
+static inline alog_note *alog_note_find(alog_notes *notes, const char *name, size_t length)
 {
     size_t number;
-    for (number = 0; number < host->unwritten_count; number++) {
-        alog_unwritten *it = &host->unwritten[number];
+    for (number = 0; number < notes->count; number++) {
+        alog_note *it = &notes->all[number];
         if (it->length == length && memcmp(it->name, name, length) == 0)
             return it;
     }
     return NULL;
+}
+
+/* Makes a note of a sink that has none. (One with a longer name, or beside so many others, is none of a configuration.) */
+static inline void alog_note_add(alog_notes *notes, const char *name, size_t length, uint32_t number)
+{
+    alog_note *it = &notes->all[notes->count];
+    if (length > sizeof it->name || notes->count == sizeof notes->all / sizeof notes->all[0])
+        return;
+    notes->count++;
+    it->number = number;
+    it->length = ALOG_CAST(uint32_t, length);
+    memcpy(it->name, name, length);
+}
+
+/* Drops a note, in whose place the last one goes. */
+static inline void alog_note_drop(alog_notes *notes, alog_note *it)
+{
+    *it = notes->all[--notes->count];
 }
 
 /* Notes whether what was to go into a file of a sink by days could be written. */
@@ -238,18 +275,15 @@ static inline void alog_unwritten_note(alog_host *host, const alog_record *run, 
 {
     char name[ALOG_NAME_MAX];
     size_t length;
-    alog_unwritten *it;
-    if (!failed && host->unwritten_count == 0)
+    alog_note *it;
+    if (!failed && host->unwritten.count == 0)
         return;
     length = alog_without(name, run->name, run->name_length, alog_date_behind);
-    it = length == 0 ? NULL : alog_unwritten_find(host, name, length);
-    if (failed && length > 0 && it == NULL && host->unwritten_count < ALOG_UNWRITTEN_MAX) {
-        it = &host->unwritten[host->unwritten_count++];
-        it->length = length;
-        memcpy(it->name, name, length);
-    } else if (!failed && it != NULL) {
-        *it = host->unwritten[--host->unwritten_count];
-    }
+    it = length == 0 ? NULL : alog_note_find(&host->unwritten, name, length);
+    if (failed && length > 0 && it == NULL)
+        alog_note_add(&host->unwritten, name, length, 0);
+    else if (!failed && it != NULL)
+        alog_note_drop(&host->unwritten, it);
 }
 
 /* Appends what one or more records have for a file. */
@@ -263,24 +297,6 @@ static inline void alog_host_append(alog_host *host, const alog_record *run)
     if (failed)
         alog_failed(host, errno);
     alog_unwritten_note(host, run, failed);
-}
-
-/* Whether the files of a sink would make way for nothing, since its lines could not be written: those of a rotation where the file without a
-   number is absent or empty, and those by days where the last line was lost. Then all stay. */
-static inline int alog_is_vain(alog_host *host, const alog_record *record)
-{
-    char name[ALOG_NAME_MAX + 1];
-    struct stat found;
-    size_t length;
-    if (record->deed == ALOG_REMOVE) {
-        length = host->unwritten_count == 0 ? 0 : alog_without(name, record->name, record->name_length, alog_date_behind);
-        return length > 0 && alog_unwritten_find(host, name, length) != NULL;
-    }
-    length = alog_without(name, record->rest, record->rest_length, alog_number_behind);
-    if (length == 0)
-        return 0;
-    name[length] = 0;
-    return fstatat(host->folder, name, &found, AT_SYMLINK_NOFOLLOW) != 0 ? errno == ENOENT : S_ISREG(found.st_mode) && found.st_size == 0;
 }
 
 /* Brings a file to the disk, where it is there, and behind it the names of the folder, where these changed. (A system of files that has no such
@@ -310,33 +326,73 @@ static inline int alog_rename_at(int folder, const char *name, const char *rest)
     return renameat(folder, name, folder, rest);
 }
 
-/* Renames a file. Where that fails it keeps its name, and so does the next one, which was to get that name: it would replace the one that
-   stayed. A rotation renames from the last file down, so that all files behind stay as they are. */
-static inline int alog_host_rename(alog_host *host, const char *name, const char *rest)
+/* Whether the files of a rotation would make way for nothing, since the one without a number, of this name, is absent or empty: its lines could not
+   be written. */
+static inline int alog_is_vain(int folder, const char *name)
 {
-    int failed = 0;
-    if (strcmp(rest, host->kept) != 0) {
-        failed = alog_rename_at(host->folder, name, rest);
-        if (failed == 0 || errno == ENOENT) {
-            if (strcmp(name, host->kept) == 0)
-                host->kept[0] = 0;
-            return failed;
-        }
+    struct stat found;
+    return fstatat(folder, name, &found, AT_SYMLINK_NOFOLLOW) != 0 ? errno == ENOENT : S_ISREG(found.st_mode) && found.st_size == 0;
+}
+
+/* Passes over a rename of a rotation that stopped before: those in front of the file that kept its name would replace it, and those behind it made
+   room for it then, so that a later rotation begins with it. Where somebody put a file there, that rotation is not made, and the next one begins
+   anew. */
+static inline void alog_host_pass(alog_host *host, alog_note *stopped, const char *name, uint32_t number)
+{
+    struct stat found;
+    if (number == stopped->number + 1 && fstatat(host->folder, name, &found, AT_SYMLINK_NOFOLLOW) == 0)
+        stopped->number = 0;
+    if (number == 1 && stopped->number == 0)
+        alog_note_drop(&host->stopped, stopped);
+}
+
+/* Renames a file of a rotation, which renames from the last file down. Where that fails the file keeps its name, and so do those in front of it:
+   it is noted with its sink, since records of others may come before the next one of this rotation. */
+static inline int alog_host_rename(alog_host *host, const alog_record *record, const char *name, const char *rest)
+{
+    char sink[ALOG_NAME_MAX + 1];
+    const size_t length = alog_without(sink, record->rest, record->rest_length, alog_number_behind);
+    const uint32_t number = alog_number_of(record->rest, record->rest_length);
+    alog_note *stopped = alog_note_find(&host->stopped, sink, length);
+    int failed = 0, is_vain;
+    sink[length] = 0;
+    if (stopped != NULL && stopped->number != number) {
+        alog_host_pass(host, stopped, name, number);
+        return 0;
     }
-    memcpy(host->kept, name, strlen(name) + 1);
+    is_vain = length > 0 && alog_is_vain(host->folder, sink);
+    if (!is_vain) {
+        host->is_changed = 1;
+        failed = alog_rename_at(host->folder, name, rest);
+    }
+    if (is_vain || (failed != 0 && errno != ENOENT)) {
+        if (stopped == NULL)
+            alog_note_add(&host->stopped, sink, length, number);
+    } else if (stopped != NULL) {
+        alog_note_drop(&host->stopped, stopped);
+    }
     return failed;
+}
+
+/* Removes a file, but one of a sink by days whose last line was lost: its files would make way for nothing. */
+static inline int alog_host_remove(alog_host *host, const alog_record *record, const char *name)
+{
+    char sink[ALOG_NAME_MAX];
+    const size_t length = host->unwritten.count == 0 ? 0 : alog_without(sink, record->name, record->name_length, alog_date_behind);
+    if (length > 0 && alog_note_find(&host->unwritten, sink, length) != NULL)
+        return 0;
+    host->is_changed = 1;
+    return unlinkat(host->folder, name, 0);
 }
 
 /* Renames or removes a file. It is closed first, as one that it replaces is, so that the next append opens what has its name then. */
 static inline int alog_host_move(alog_host *host, const alog_record *record, const char *name, const char *rest)
 {
     alog_file_leave(host, record->name, record->name_length);
-    if (record->deed == ALOG_RENAME)
-        alog_file_leave(host, record->rest, record->rest_length);
-    if (alog_is_vain(host, record))
-        return 0;
-    host->is_changed = 1;
-    return record->deed == ALOG_REMOVE ? unlinkat(host->folder, name, 0) : alog_host_rename(host, name, rest);
+    if (record->deed == ALOG_REMOVE)
+        return alog_host_remove(host, record, name);
+    alog_file_leave(host, record->rest, record->rest_length);
+    return alog_host_rename(host, record, name, rest);
 }
 
 /* Does another deed than an append. */

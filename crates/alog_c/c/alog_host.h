@@ -31,11 +31,11 @@
    A call of the system that fails later is counted, its errno is kept where it is the first, and the others go on: alog_failures tells both.
    What could not be written is missing, so the last line in front of it may be cut, and the next one then stands behind it without a new line.
    Where a file of a rotation cannot be renamed, say `log.2` to `log.3`, then `log.1` and `log` keep their names too, so that it is not
-   replaced, and lines go on into `log` until a later rotation can be made. Older files were renamed by then, and are at each try: so each try
-   may lose the oldest one, though no new one comes. No file makes way for one that got nothing: where `log` is absent or empty a rotation
-   is not made, and where the last line of a sink by days was lost no file of it is removed (of up to 16 such sinks; a file that stayed so is
-   not removed later). A folder of the name of a numbered file stays, as a file that cannot be renamed does. A flush brings lines to the system, and, where the options say `sync`, to the disk, with
-   the names of the folder; then a file is also brought there before it is closed or renamed.
+   replaced, and lines go on into `log` until a later rotation can be made, which begins with that file. Older files were renamed by then, so the
+   oldest one may be gone once, though no new one came. No file makes way for one that got nothing: where `log` is absent or empty a rotation
+   is not made, and where the last line of a sink by days was lost no file of it is removed (a file that stayed so is not removed later). A
+   folder of the name of a numbered file stays, as a file that cannot be renamed does. A flush brings lines to the system, and, where the
+   options say `sync`, to the disk, with the names of the folder; then a file is also brought there before it is closed or renamed.
 
    Areas. Each sink has so many areas of ALOG_AREA bytes (128 KiB), which workers fill and which are empty again when they were taken. A sink
    that finds none empty is broken for good, which the report alone tells, so there have to be enough. A worker's call ends so many messages as `batch` says, and behind it
@@ -176,8 +176,8 @@ static inline void alog_host_clear(alog_host *host)
 {
     host->told[0] = 0;
     host->folder = host->held = -1;
-    host->kept[0] = 0;
-    host->unwritten_count = 0;
+    host->stopped.count = 0;
+    host->unwritten.count = 0;
     host->is_changed = 0;
     host->failures = 0;
     host->failed_errno = 0;

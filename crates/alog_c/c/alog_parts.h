@@ -57,10 +57,9 @@ enum { ALOG_TRIES = 8, ALOG_YIELDS = 64, ALOG_REST = 100000 };
    which 64 take one to three microseconds; below how many messages from one pause to the next are few, and from how many on they are enough. */
 enum { ALOG_PAUSES = 4, ALOG_SPINS_MIN = 64, ALOG_SPINS_MAX = 1024, ALOG_FEW = 4, ALOG_ENOUGH = 128 };
 
-/* The file by which a folder is held, which no sink may have, the longest name that a configuration gives a file, and of how many sinks by days a
-   host remembers that their last line could not be written. */
+/* The file by which a folder is held, which no sink may have, the longest name that a configuration gives a file, and the most sinks that it has. */
 #define ALOG_LOCK ".alog.lock"
-enum { ALOG_FOUND_MAX = 64, ALOG_UNWRITTEN_MAX = 16 };
+enum { ALOG_FOUND_MAX = 64, ALOG_SINKS_MAX = 256 };
 
 /* What a host may be told. */
 typedef struct alog_options {
@@ -107,11 +106,19 @@ typedef struct alog_open_file {
     char name[ALOG_NAME_MAX];
 } alog_open_file;
 
-/* A sink by days whose last line could not be written: the name of its file, without a date. */
-typedef struct alog_unwritten {
-    size_t length;
-    char name[ALOG_NAME_MAX];
-} alog_unwritten;
+/* What a host remembers of a sink: the name of its file, without a number or a date, and, where its rotation stopped, the number that no file could
+   get. */
+typedef struct alog_note {
+    uint32_t number;
+    uint32_t length;
+    char name[ALOG_FOUND_MAX];
+} alog_note;
+
+/* Notes of some sinks, each of another one: there is room for all that a configuration may have. */
+typedef struct alog_notes {
+    size_t count;
+    alog_note all[ALOG_SINKS_MAX];
+} alog_notes;
 
 /* A producer of a client that was closed, for the next one that is opened. */
 typedef struct alog_spare {
@@ -136,11 +143,9 @@ typedef struct alog_host {
     int held;
     uint64_t uses;
     alog_open_file open[ALOG_OPEN_FILES];
-    /* the name that a file kept, since its rename failed: no other one gets it before that file has another */
-    char kept[ALOG_NAME_MAX + 1];
-    /* the sinks by days whose last line could not be written */
-    alog_unwritten unwritten[ALOG_UNWRITTEN_MAX];
-    size_t unwritten_count;
+    /* the sinks whose rotation stopped at a file that kept its name, and those by days whose last line could not be written */
+    alog_notes stopped;
+    alog_notes unwritten;
     /* whether a flush goes to the disk, and whether a file was made, renamed or removed since the names of the folder were brought there */
     uint32_t sync;
     uint32_t is_changed;
