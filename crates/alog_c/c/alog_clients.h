@@ -98,11 +98,17 @@ class host {
     // The same, with the errno of the first one, or 0.
     std::uint64_t failures(int &first_errno) const { return alog_failures(&host_, &first_errno); }
 
-    // How many messages were refused: they are missing, and no total of the report counts them.
+    // How many messages were refused: they are missing, and no total of the report counts them. What its logger's level hides is none of them, but
+    // where the host ends or has ended, since nobody can ask for a level then.
     std::uint64_t refused() const { return refused_; }
 
-    // Counts a message that was refused.
-    void refuse() { refused_++; }
+    // Counts a message that was refused, unless the level of its logger hides it; answers whether it is counted. Its level is asked for behind the
+    // refusal alone, under the lock of the clients, since its thread may have none.
+    bool refuse(std::uint32_t logger, alog_level level) {
+        const bool is_hidden = entered([this, logger, level] { return is_on(logger, level); }) == ALOG_FILTERED;
+        refused_ += !is_hidden;
+        return !is_hidden;
+    }
 
     // The number of a logger. Refused where the host ends or has ended.
     std::uint32_t find(const std::string &name) {
@@ -262,6 +268,16 @@ class host {
     // (a name ends by its first zero there)
     alog_answer find_in(const std::string &name, std::uint32_t &logger) {
         return name.find('\0') == std::string::npos ? alog_host_find(&host_, name.c_str(), &logger) : ALOG_NO_LOGGER;
+    }
+
+    // Whether a logger reads a message of this level, without a client.
+    alog_answer is_on(std::uint32_t logger, alog_level level) {
+        const alog_answer entered = alog_host_enter(&host_);
+        if (entered != ALOG_DONE)
+            return entered;
+        const alog_answer answer = alog_is_on_in_pool(&host_.pool, logger, level);
+        pthread_mutex_unlock(&host_.lock);
+        return answer;
     }
 
     // The client of this thread.

@@ -9,7 +9,8 @@
 // The logger of this name is one of the document, a configuration of alog. Threads may use one logger side by side. alog_clients.h has the host.
 //
 // No call that logs throws: it answers what became of its message, and waits where the queue is full and the logger's policy is to block. What the
-// logger does not read, since its level hides it and no backtrace keeps it, is not formatted, and answers ALOG_FILTERED; so does what is only kept.
+// logger does not read, since its level hides it and no backtrace keeps it, is not formatted, and answers ALOG_FILTERED, also where its thread gets no
+// client; so does what is only kept.
 // What is refused, as a text that is too long or not UTF-8, is missing, and `refused` of the host counts it, as what cannot be formatted, which answers
 // ALOG_NOT_UTF8, or ALOG_NO_MEMORY for want of memory. A message whose source is too long, or no UTF-8, goes without it. What is discarded since the
 // queue is full is told by the answer and by the report. A text that is no format is logged as `net.info("{}", text)`.
@@ -126,9 +127,7 @@ class logger {
         } catch (...) {
             answer = thrown();
         }
-        if (is_refusal(answer))
-            host_->refuse();
-        return answer;
+        return is_refusal(answer) && !host_->refuse(number_, level) ? ALOG_FILTERED : answer;
     }
 
     alog_answer write(alog_client &client, const alog_source *from, alog_level level, fmt::string_view text, fmt::format_args args) const {

@@ -11,8 +11,8 @@
 // the configuration says none. alog_clients.h has the host, and says what becomes of a thread's client.
 //
 // A message that is refused, as a text that is not UTF-8 or is too long, becomes an alog::error, which spdlog hands to its error handler: its default
-// handler prints at most one in a second. How many they were `refused` of the host says. A message whose source is too long, or no UTF-8, goes
-// without it. What is discarded since the queue is full is told by the report alone.
+// handler prints at most one in a second. How many they were `refused` of the host says. What the level of alog's logger hides is none of them, whatever
+// its text is. A message whose source is too long, or no UTF-8, goes without it. What is discarded since the queue is full is told by the report alone.
 //
 // Times are UTC unless the document says `offset` or `zone`, where spdlog's are local; `%t` is the number of the client that the message goes by, from
 // 0 on, and not the system's. `spdlog::register_logger` makes a logger known to `spdlog::get`.
@@ -49,8 +49,8 @@ class spdlog_sink : public spdlog::sinks::sink {
         try {
             alog::expect(host_->with_client([&it](alog_client &client) { return alog::post(client, it); }));
         } catch (...) {
-            host_->refuse();
-            throw;
+            if (host_->refuse(logger_, level))
+                throw;
         }
     }
 

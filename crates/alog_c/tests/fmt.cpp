@@ -143,6 +143,34 @@ void refusals(const std::string &folder) {
     EXPECT_TEXT(content(folder).c_str(), ("net I : zero\nnet I : one\nnet I : two\n" + here).c_str());
 }
 
+// A thread that gets no client: what its logger's level hides is filtered, and is not refused; what would be posted or kept is.
+void without_client(const std::string &folder) {
+    const auto host = alog::make_host(config, folder, alog_options{1, 1, 0, 0});
+    const alog::logger net(host, "net"), disk(host, "disk");
+    EXPECT(net.info("mine"), ALOG_DONE);
+    std::thread([&host, &net, &disk] {
+        const counted it{1, 0};
+        EXPECT(net.debug("{}", it), ALOG_FILTERED);
+        EXPECT(host->refused(), 0);
+        EXPECT(net.info("{}", it), ALOG_TOO_MANY);
+        EXPECT(host->refused(), 1);
+        EXPECT(disk.debug("{}", it), ALOG_TOO_MANY);
+        EXPECT(host->refused(), 2);
+        host->set_level("net", ALOG_ERROR);
+        EXPECT(net.warning("{}", it), ALOG_FILTERED);
+        EXPECT(net.error("{}", it), ALOG_TOO_MANY);
+        EXPECT(net.log(static_cast<alog_level>(7), "{}", it), ALOG_TOO_MANY);
+        EXPECT(host->refused(), 4);
+        EXPECT(net.is_on(ALOG_CRITICAL), 0);
+        EXPECT(it.times, 0);
+    }).join();
+    EXPECT(host->stop().handled, 1);
+    EXPECT_TEXT(content(folder).c_str(), "net I : mine\n");
+    // behind the end nobody knows its level
+    EXPECT(net.debug("late"), ALOG_NO_HANDLE);
+    EXPECT(host->refused(), 5);
+}
+
 // A logger keeps its host, and one of no such name is refused.
 void hosts(const std::string &folder) {
     auto host = alog::make_host(config, folder, 1);
@@ -263,6 +291,7 @@ int main(int argc, char **argv) {
     calls(argv[1]);
     levels(argv[1]);
     refusals(argv[1]);
+    without_client(argv[1]);
     hosts(argv[1]);
     ends_with_its_last_owner(argv[1]);
     stops_beside_late_logs(argv[1]);

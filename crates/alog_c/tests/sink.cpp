@@ -53,6 +53,7 @@ void messages(const std::string &folder) {
     net->set_error_handler([&errors](const std::string &words) { errors.push_back(words); });
     net->set_level(spdlog::level::trace);
     net->debug("below the level of alog");
+    net->debug(std::string(9000, 'x'));
     net->info("one {}", 1);
     net->log(spdlog::source_loc{"src/a.cpp", 7, "f"}, spdlog::level::critical, "two");
     disk->warn("below the level of alog");
@@ -168,10 +169,21 @@ void one_client(const std::string &folder) {
     ends();
     EXPECT(errors, 3);
     EXPECT(host->refused(), 2);
+    // what alog's level hides is not refused, though there is no client for it
+    net->set_level(spdlog::level::trace);
+    std::thread([&net] {
+        net->debug("hidden");
+        net->trace(std::string(9000, 'x'));
+    }).join();
+    EXPECT(errors, 3);
+    EXPECT(host->refused(), 2);
+    std::thread([&net] { net->info("mine, and none"); }).join();
+    EXPECT(errors, 4);
+    EXPECT(host->refused(), 3);
     EXPECT(host->stop().handled, 4);
     EXPECT_TEXT(content(folder).c_str(), "net I : true\nnet I : late\nnet I : mine\n");
     ends();
-    EXPECT(host->refused(), 4);
+    EXPECT(host->refused(), 5);
 }
 
 #ifndef IS_SANITIZED
