@@ -141,6 +141,8 @@ class host {
 
     host(const std::string &document, const std::string &folder, const alog_options &options) {
         static const int known = pthread_atfork(nullptr, nullptr, forget);
+        // (a name ends by its first zero there, and would be that of another folder)
+        alog::expect(folder.find('\0') == std::string::npos ? ALOG_DONE : ALOG_NO_STORE, "no folder has a zero byte in its name");
         const alog_answer answer = alog_start_with(&host_, document.data(), document.size(), folder.c_str(), &options);
         alog_report report;
         (void)known;

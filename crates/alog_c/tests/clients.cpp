@@ -122,6 +122,44 @@ void refusals(const std::string &folder) {
     std::free(bytes);
 }
 
+// A call with a client has its own answer, and what it throws, and its client is back then; one without a client throws why, and is not made. What is
+// thrown has the answer with its sentence.
+void calls_with_clients(const std::string &folder) {
+    const auto host = alog::make_host(config, folder, alog_options{1, 1, 0, 0});
+    const alog_client *mine = nullptr;
+    int calls = 0;
+    EXPECT(host->with_client([&mine](alog_client &client) {
+        mine = &client;
+        return ALOG_HELD;
+    }),
+           ALOG_HELD);
+    EXPECT(host->with_client([&mine](alog_client &client) { return mine == &client ? ALOG_DONE : ALOG_NULL; }), ALOG_DONE);
+    for (int times = 0; times < 2; times++)
+        EXPECT_TEXT(thrown([&host] { host->with_client([](alog_client &) -> alog_answer { throw alog::error(ALOG_BUSY, "mine"); }); }).c_str(), "alog: mine");
+    std::thread([&host, &calls] {
+        try {
+            host->with_client([&calls](alog_client &) {
+                calls++;
+                return ALOG_DONE;
+            });
+        } catch (const alog::error &error) {
+            EXPECT(error.answer(), ALOG_TOO_MANY);
+            EXPECT_TEXT(error.what(), "alog: The pool may make no more of these.");
+        }
+    }).join();
+    EXPECT(calls, 0);
+    alog::expect(ALOG_ENDED, "no refusal");
+    EXPECT_TEXT(thrown([] { alog::expect(ALOG_NO_THREAD, std::string("none")); }).c_str(), "alog: The system gave no thread. none");
+    EXPECT(host->stop().handled, 0);
+}
+
+// A folder whose name has a zero in it is none, and not the one whose name ends there.
+void odd_folder(const std::string &folder) {
+    EXPECT_TEXT(thrown([&folder] { alog::make_host(config, folder + std::string("\0x", 2), 1); }).c_str(),
+                "alog: The folder takes no files, or another program holds it, or a sink cannot write to its file. no folder has a zero byte in its name");
+    EXPECT(alog::make_host(config, folder, 1)->stop().handled, 0);
+}
+
 // What holds the client that was lent to it when its thread ends, until it may end.
 struct holds {
     alog::host &host;
@@ -238,6 +276,8 @@ int main(int argc, char **argv) {
     handlers_of_memory(argv[1]);
 #endif
     refusals(argv[1]);
+    calls_with_clients(argv[1]);
+    odd_folder(argv[1]);
     stops_behind_loans(argv[1]);
     failures(argv[1]);
 #ifndef IS_SANITIZED

@@ -7,6 +7,7 @@
 #include <vector>
 
 #include <malloc.h>
+#include <spdlog/pattern_formatter.h>
 
 namespace {
 
@@ -102,6 +103,30 @@ void times_and_names(const std::string &folder) {
     EXPECT_TEXT(content(folder).c_str(), "1706974546.123456789 x\n");
     net->flush();
     EXPECT(errors.size(), 1);
+}
+
+// A pattern of spdlog's has no effect, by whichever call it is set; a sink by itself is refused as a logger is.
+void patterns(const std::string &folder) {
+    const auto host = alog::make_host(config, folder, 1);
+    const auto sink = std::make_shared<alog::spdlog_sink>(host, "net");
+    spdlog::logger net("other", sink);
+    std::remove(path_of(folder.c_str(), "log.txt"));
+    net.info("one");
+    net.set_pattern("[%l] %v");
+    net.info("two");
+    sink->set_pattern("[%l] %v");
+    net.info("three");
+    sink->set_formatter(std::unique_ptr<spdlog::formatter>(new spdlog::pattern_formatter("[%l] %v")));
+    net.info("four");
+    net.set_formatter(std::unique_ptr<spdlog::formatter>());
+    sink->set_level(spdlog::level::err);
+    net.info("below the level of the sink");
+    EXPECT_TEXT(thrown([] { alog::spdlog_sink(nullptr, "net"); }).c_str(), "alog: A pointer is null.");
+    EXPECT_TEXT(thrown([&host] { alog::spdlog_sink(host, "nobody"); }).c_str(), "alog: There is no such logger. nobody");
+    EXPECT(host->stop().handled, 4);
+    EXPECT_TEXT(content(folder).c_str(), "net I : one\nnet I : two\nnet I : three\nnet I : four\n");
+    EXPECT(thrown([&sink] { sink->flush(); }).empty(), 0);
+    EXPECT(host->refused(), 0);
 }
 
 // A source without names, and one that is too long or no UTF-8, without which the message goes.
@@ -255,6 +280,7 @@ int main(int argc, char **argv) {
     threads_that_come_and_go(argv[1]);
     messages(argv[1]);
     times_and_names(argv[1]);
+    patterns(argv[1]);
     sources(argv[1]);
     ends_of_threads(argv[1]);
     one_client(argv[1]);
