@@ -30,8 +30,8 @@ static int is_changed, closed_dirty, was_open;
 /* whether the library is to say that nothing is there where all was taken, and how often it was to say so; and whether the next sync of the folder
    fails */
 static int is_endless, ends, is_refused;
-/* whether a write took nothing */
-static int took_nothing;
+/* whether a write took nothing, and how often the folder was brought to the disk */
+static int took_nothing, folder_syncs;
 
 /* Whether this call is the one, and of a kind of which that may become. */
 static int is_it(int goes_on, int is_write)
@@ -130,6 +130,7 @@ int __wrap_fsync(int descriptor)
         return -1;
     }
     is_changed = 0;
+    folder_syncs++;
     return 0;
 }
 
@@ -224,6 +225,7 @@ static void names_again(const char *folder)
     EXPECT(alog_start_with(&host, one, sizeof one - 1, folder, &options), ALOG_DONE);
     EXPECT(alog_client_open(&host, &client), ALOG_DONE);
     is_refused = 1;
+    folder_syncs = 0;
     for (int i = 0; i < LINES; i++)
         EXPECT(alog_log_wait(&client, 0, ALOG_INFO, "of ten...", 9), ALOG_DONE);
     EXPECT(alog_client_close(&client), ALOG_DONE);
@@ -231,6 +233,7 @@ static void names_again(const char *folder)
     EXPECT(is_refused, 0);
     EXPECT(host.failures, 1);
     EXPECT(is_changed, 0);
+    EXPECT(folder_syncs, 1);
 }
 
 /* The end of a host, where the library says that all was taken, and where it does not. */

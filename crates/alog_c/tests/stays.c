@@ -145,6 +145,10 @@ static void between(const char *folder)
     expect_file("a.2.txt", "a2");
     expect_file("b.txt", "b0+");
     EXPECT(own.failures, 3);
+    own.is_changed = 0;
+    put(ALOG_RENAME, "absent.txt", "absent.1.txt");
+    carry_out();
+    EXPECT(own.is_changed, 0);
     /* when nothing is in the way any more, both go on */
     EXPECT(rmdir(path_of(place, "a.3.txt")), 0);
     EXPECT(rmdir(path_of(place, "b.1.txt")), 0);
@@ -159,6 +163,11 @@ static void between(const char *folder)
     expect_file("a.2.txt", "a1");
     expect_file("a.3.txt", "a2");
     expect_file("b.1.txt", "b0+");
+    EXPECT(own.is_changed, 1);
+    /* a name without a number is one of no rotation */
+    put(ALOG_RENAME, "a.1.txt", "other.txt");
+    carry_out();
+    expect_file("other.txt", "a0+");
     EXPECT(own.failures, 3);
     alog_folder_close(&own);
 }
