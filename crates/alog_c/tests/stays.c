@@ -105,6 +105,11 @@ static void expect_file(const char *name, const char *wanted)
     free(bytes);
 }
 
+static int is_there(const char *name)
+{
+    return access(path_of(place, name), F_OK) == 0;
+}
+
 /* The name of a file of a sink. */
 static const char *name_of(int sink, int number)
 {
@@ -194,7 +199,7 @@ static void again(const char *folder)
         EXPECT(own.failures, times);
         expect_file("a.txt", "a0");
         expect_file("a.1.txt", "a1");
-        EXPECT(access(path_of(place, "a.3.txt"), F_OK), -1);
+        EXPECT(is_there("a.3.txt"), 0);
         expect_file("a.4.txt", "a3");
         expect_file("a.5.txt", "a4");
         expect_file("a.6.txt", "a5");
@@ -202,7 +207,7 @@ static void again(const char *folder)
     EXPECT(rmdir(path_of(place, "a.2.txt")), 0);
     rotate(PLACES - 1);
     EXPECT(own.failures, 3);
-    EXPECT(access(path_of(place, "a.txt"), F_OK) == -1 && access(path_of(place, "a.3.txt"), F_OK) == -1, 1);
+    EXPECT(is_there("a.txt") + is_there("a.3.txt"), 0);
     expect_file("a.1.txt", "a0");
     expect_file("a.2.txt", "a1");
     expect_file("a.4.txt", "a3");
@@ -290,6 +295,57 @@ static void most_sinks(const char *folder)
     EXPECT(own.failures, 2 * ALOG_SINKS_MAX);
     alog_note_add(&own.stopped, place, ALOG_FOUND_MAX + 1, 1);
     EXPECT(own.stopped.count, 0);
+    alog_folder_close(&own);
+}
+
+/* While the last line of a sink by days was lost no file of it is removed, and those of others are. */
+static void removals(const char *folder)
+{
+    enter(folder, "removals");
+    write_file("d_2026-11-30.txt", "d");
+    write_file("e_2026-11-30.txt", "e");
+    write_file("r.txt", "r");
+    writes_fail = 100;
+    put(ALOG_APPEND, "d_2026-12-01.txt", "lost");
+    carry_out();
+    writes_fail = 0;
+    own.is_changed = 0;
+    put(ALOG_REMOVE, "d_2026-11-30.txt", "");
+    carry_out();
+    EXPECT(is_there("d_2026-11-30.txt"), 1);
+    EXPECT(own.is_changed, 0);
+    put(ALOG_REMOVE, "e_2026-11-30.txt", "");
+    put(ALOG_REMOVE, "r.txt", "");
+    carry_out();
+    EXPECT(is_there("e_2026-11-30.txt") + is_there("r.txt"), 0);
+    EXPECT(own.is_changed, 1);
+    put(ALOG_APPEND, "d_2026-12-01.txt", "well");
+    put(ALOG_REMOVE, "d_2026-11-30.txt", "");
+    carry_out();
+    EXPECT(is_there("d_2026-11-30.txt"), 0);
+    EXPECT(own.failures, 1);
+    alog_folder_close(&own);
+}
+
+/* A file that is renamed or replaced is closed: what comes next goes to what has its name then. What a flush brought to the disk needs no more. */
+static void open_files(const char *folder)
+{
+    enter(folder, "open");
+    own.sync = 1;
+    put(ALOG_APPEND, "a.1.txt", "replaced");
+    put(ALOG_APPEND, "a.txt", "a0");
+    carry_out();
+    EXPECT(alog_file_find(&own, "a.txt", 5)->is_dirty, 1);
+    put(ALOG_FLUSH, "a.txt", "");
+    carry_out();
+    EXPECT(alog_file_find(&own, "a.txt", 5)->is_dirty + own.is_changed, 0);
+    put(ALOG_RENAME, "a.txt", "a.1.txt");
+    put(ALOG_APPEND, "a.1.txt", "+");
+    put(ALOG_APPEND, "a.txt", "new");
+    carry_out();
+    expect_file("a.1.txt", "a0+");
+    expect_file("a.txt", "new");
+    EXPECT(own.failures, 0);
     alog_folder_close(&own);
 }
 
@@ -472,6 +528,8 @@ int main(int argc, char **argv)
     again(argv[1]);
     filled(argv[1]);
     most_sinks(argv[1]);
+    removals(argv[1]);
+    open_files(argv[1]);
     hidden_digits(argv[1]);
     names();
     through_the_library(argv[1]);
