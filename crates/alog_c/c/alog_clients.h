@@ -98,12 +98,11 @@ class host {
     // The same, with the errno of the first one, or 0.
     std::uint64_t failures(int &first_errno) const { return alog_failures(&host_, &first_errno); }
 
-    // How many messages were refused: they are missing, and no total of the report counts them. What its logger's level hides is none of them, but
-    // where the host ends or has ended, since nobody can ask for a level then.
+    // How many messages were refused: they are missing, and no total of the report counts them.
     std::uint64_t refused() const { return refused_; }
 
-    // Counts a message that was refused, unless the level of its logger hides it; answers whether it is counted. Its level is asked for behind the
-    // refusal alone, under the lock of the clients, since its thread may have none.
+    // Counts a message that was refused, unless the level of its logger hides it; answers whether it is counted. The level is asked for behind a refusal
+    // alone, under the lock of the clients, since a thread may have none; where the host ends or has ended there is none, and the message counts.
     bool refuse(std::uint32_t logger, alog_level level) {
         const bool is_hidden = entered([this, logger, level] { return is_on(logger, level); }) == ALOG_FILTERED;
         refused_ += !is_hidden;

@@ -27,11 +27,13 @@ static enum way way;
    failed was an open */
 static char is_dirty[DESCRIPTORS];
 static int is_changed, closed_dirty, was_open;
+/* how often the folder was brought to the disk */
+static int folder_syncs;
 /* whether the library is to say that nothing is there where all was taken, and how often it was to say so; and whether the next sync of the folder
    fails */
 static int is_endless, ends, is_refused;
-/* whether a write took nothing, and how often the folder was brought to the disk */
-static int took_nothing, folder_syncs;
+/* whether a write took nothing */
+static int took_nothing;
 
 /* Whether this call is the one, and of a kind of which that may become. */
 static int is_it(int goes_on, int is_write)
