@@ -1,5 +1,6 @@
 /* What a host makes of the files of a folder: files FOLDER. Rotating files, over some starts, by a model that does what the configuration says;
-   files by days; more files than are open at once; files that are good while nothing can be written; and texts that are formatted. */
+   files by days; more files than are open at once; files that are good while nothing can be written; texts that are formatted; and what the
+   names of a sink's files tell. */
 #define _GNU_SOURCE
 #include "alog_host.h"
 #include "trial.h"
@@ -424,6 +425,40 @@ static void closed_streams(const char *folder)
     expect_file("log.txt", "x\n");
 }
 
+/* The name of a sink's file with these bytes in front of its ending, as the library puts them there. */
+static void with_mark(char *to, size_t room, const char *name, const char *mark)
+{
+    const size_t length = strlen(name);
+    const char *point = strrchr(name, '.');
+    const size_t ending = point == NULL || point == name || point[1] == 0 ? length : (size_t)(point - name);
+    snprintf(to, room, "%.*s%s%s", (int)ending, name, mark, name + ending);
+}
+
+/* The file of a sink is told by the names of its others, whatever the points and digits in its name. */
+static void names(void)
+{
+    static const char letters[] = "a.17", *const numbers[] = {".1", ".10", ".777", ".1000"};
+    enum { LENGTH = 5 };
+    for (unsigned number = 0; number < 1 << 2 * LENGTH; number++)
+        for (unsigned length = 1; length <= LENGTH; length++) {
+            char name[LENGTH + 1] = "", marked[32], to[ALOG_NAME_MAX];
+            for (unsigned at = 0; at < length; at++)
+                name[at] = letters[number >> 2 * at & 3];
+            if (number >> 2 * length != 0 || strcmp(name, ".") == 0 || strcmp(name, "..") == 0)
+                continue;
+            for (size_t row = 0; row < sizeof numbers / sizeof numbers[0]; row++) {
+                with_mark(marked, sizeof marked, name, numbers[row]);
+                if (!EXPECT(alog_without(to, marked, strlen(marked), alog_number_behind), length) || !EXPECT(memcmp(to, name, length), 0) ||
+                    !EXPECT(alog_number_of(marked, strlen(marked)), strtoul(numbers[row] + 1, NULL, 10)))
+                    printf("(of %s)\n", marked);
+            }
+            with_mark(marked, sizeof marked, name, "_2026-12-01");
+            if (!EXPECT(alog_without(to, marked, strlen(marked), alog_date_behind), length) || !EXPECT(memcmp(to, name, length), 0))
+                printf("(of %s)\n", marked);
+            EXPECT(alog_without(to, name, length, alog_date_behind), 0);
+        }
+}
+
 int main(int argc, char **argv)
 {
     if (argc != 2)
@@ -443,6 +478,7 @@ int main(int argc, char **argv)
     leases(argv[1]);
     prints(argv[1]);
     closed_streams(argv[1]);
+    names();
     is_synced = 1;
     rotations(argv[1], "synced_rotations");
     days(argv[1], "synced_days", 3);

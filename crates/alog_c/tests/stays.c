@@ -363,40 +363,6 @@ static void hidden_digits(const char *folder)
     alog_folder_close(&own);
 }
 
-/* The name of a sink's file with these bytes in front of its ending, as the library puts them there. */
-static void with_mark(char *to, size_t room, const char *name, const char *mark)
-{
-    const size_t length = strlen(name);
-    const char *point = strrchr(name, '.');
-    const size_t ending = point == NULL || point == name || point[1] == 0 ? length : (size_t)(point - name);
-    snprintf(to, room, "%.*s%s%s", (int)ending, name, mark, name + ending);
-}
-
-/* The file of a sink is told by the names of its others, whatever the points and digits in its name. */
-static void names(void)
-{
-    static const char letters[] = "a.17", *const numbers[] = {".1", ".10", ".777", ".1000"};
-    enum { LENGTH = 5 };
-    for (unsigned number = 0; number < 1 << 2 * LENGTH; number++)
-        for (unsigned length = 1; length <= LENGTH; length++) {
-            char name[LENGTH + 1] = "", marked[32], to[ALOG_NAME_MAX];
-            for (unsigned at = 0; at < length; at++)
-                name[at] = letters[number >> 2 * at & 3];
-            if (number >> 2 * length != 0 || strcmp(name, ".") == 0 || strcmp(name, "..") == 0)
-                continue;
-            for (size_t row = 0; row < sizeof numbers / sizeof numbers[0]; row++) {
-                with_mark(marked, sizeof marked, name, numbers[row]);
-                if (!EXPECT(alog_without(to, marked, strlen(marked), alog_number_behind), length) || !EXPECT(memcmp(to, name, length), 0) ||
-                    !EXPECT(alog_number_of(marked, strlen(marked)), strtoul(numbers[row] + 1, NULL, 10)))
-                    printf("(of %s)\n", marked);
-            }
-            with_mark(marked, sizeof marked, name, "_2026-12-01");
-            if (!EXPECT(alog_without(to, marked, strlen(marked), alog_date_behind), length) || !EXPECT(memcmp(to, name, length), 0))
-                printf("(of %s)\n", marked);
-            EXPECT(alog_without(to, name, length, alog_date_behind), 0);
-        }
-}
-
 /* What lies between, by the library: a rotation of a thousand files takes more than an area, and the area of another sink is taken before its next
    one. */
 static void through_the_library(const char *folder)
@@ -531,7 +497,6 @@ int main(int argc, char **argv)
     removals(argv[1]);
     open_files(argv[1]);
     hidden_digits(argv[1]);
-    names();
     through_the_library(argv[1]);
     for (unsigned seed = 1; seed <= SEEDS; seed++)
         by_chance(argv[1], seed);
