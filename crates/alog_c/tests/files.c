@@ -374,6 +374,17 @@ static void leases(const char *folder)
     expect_file("log.txt", "x\n");
 }
 
+ALOG_PRINTS(1, 2)
+static enum alog_answer print_list(const char *format, ...)
+{
+    enum alog_answer answer;
+    va_list values;
+    va_start(values, format);
+    answer = alog_vprintf(&client, 0, ALOG_ERROR, format, values);
+    va_end(values);
+    return answer;
+}
+
 /* Texts that are formatted, as long as a text may be and longer, and that cannot be; what is refused is in no file. */
 static void prints(const char *folder)
 {
@@ -395,8 +406,9 @@ static void prints(const char *folder)
     EXPECT(alog_printf(&client, 1, ALOG_INFO, "%d", 1), ALOG_NO_LOGGER);
     EXPECT(alog_printf(NULL, 0, ALOG_INFO, "%d", 1), ALOG_NULL);
     EXPECT(alog_printf(&client, 0, ALOG_INFO, none, 1), ALOG_NULL);
-    stop(2);
-    snprintf(text, sizeof text, "warning seven -7 of 100%%\ninfo %0*d\n", ALOG_TEXT_MAX, 0);
+    EXPECT(print_list("%s of %d", "list", 2), ALOG_DONE);
+    stop(3);
+    snprintf(text, sizeof text, "warning seven -7 of 100%%\ninfo %0*d\nerror list of 2\n", ALOG_TEXT_MAX, 0);
     expect_file("log.txt", text);
 }
 
