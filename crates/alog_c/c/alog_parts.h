@@ -107,7 +107,7 @@ typedef struct alog_open_file {
 } alog_open_file;
 
 /* What a host remembers of a sink: the name of its file, without a number or a date, and, where its rotation stopped, the number that no file could
-   get. */
+   get, or 0 where it only is not to go on. */
 typedef struct alog_note {
     uint32_t number;
     uint32_t length;
