@@ -3,6 +3,8 @@
 #![tactic(auto)]
 
 #[cfg(test)]
+mod error_tests;
+#[cfg(test)]
 mod fault_tests;
 #[cfg(test)]
 mod law_tests;

@@ -12,6 +12,8 @@ mod block_port_tests;
 #[cfg(test)]
 mod dump_tests;
 #[cfg(test)]
+mod error_tests;
+#[cfg(test)]
 mod log_tests;
 #[cfg(test)]
 mod memory_tests;

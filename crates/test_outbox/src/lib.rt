@@ -12,6 +12,8 @@ mod call_tests;
 #[cfg(test)]
 mod end_tests;
 #[cfg(test)]
+mod error_tests;
+#[cfg(test)]
 mod host;
 #[cfg(test)]
 mod memory_tests;

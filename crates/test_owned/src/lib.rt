@@ -9,6 +9,8 @@
 #[cfg(test)]
 mod back_tests;
 #[cfg(test)]
+mod error_tests;
+#[cfg(test)]
 mod log_tests;
 #[cfg(test)]
 mod memory_tests;

@@ -11,6 +11,8 @@
 #![tactic(auto)]
 
 #[cfg(test)]
+mod error_tests;
+#[cfg(test)]
 mod gate_tests;
 #[cfg(test)]
 mod gates;

@@ -16,6 +16,8 @@ mod crossing_tests;
 #[cfg(test)]
 mod desk_tests;
 #[cfg(test)]
+mod error_tests;
+#[cfg(test)]
 mod lane_tests;
 mod limits;
 #[cfg(test)]
