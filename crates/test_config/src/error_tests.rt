@@ -1,4 +1,5 @@
-//! What the errors of sinks and of the stepped system say, but for those that the tests of sinks show.
+//! What the errors of sinks, of the stepped system and of scripts say, but for those that the tests of sinks show.
+use alog_replay::{LineError, ReplayError};
 use alog_sink::{NameError, SinkError, StoreError};
 use alog_system::{BeginError, SystemError};
 use std::alloc::{AllocError, Global};
@@ -60,10 +61,29 @@ fn no_system(rt: &impl Abort, alloc: Global) {
     }
 }
 
+// A line that was not carried out, and a script that was not replayed.
+fn no_script(rt: &impl Abort, alloc: Global) {
+    for (error, wanted) in [
+        (LineError::Refused, "the line is refused"),
+        (LineError::OutOfMemory, MEMORY),
+    ] {
+        says(rt, format!(in alloc; "{error}"), wanted);
+    }
+    for (error, wanted) in [
+        (ReplayError::LineRefused { line: 7 }, "line 7 is refused"),
+        (ReplayError::ReadFault, "the script could not be read"),
+        (ReplayError::WriteFault, "the output could not be written"),
+        (ReplayError::OutOfMemory, MEMORY),
+    ] {
+        says(rt, format!(in alloc; "{error}"), wanted);
+    }
+}
+
 #[test]
 fn what_errors_say(rt: HostRuntime) {
     let alloc = rt.alloc();
     no_turn(&rt, alloc);
     no_deed(&rt, alloc);
     no_system(&rt, alloc);
+    no_script(&rt, alloc);
 }
