@@ -1,5 +1,6 @@
 """Runs the built program as users do: the sessions of sessions/, the rows of rows/ and examples/, and what README and docs/ show; prints
-what differs from what is wanted, and how many passed and failed. With names it plays those sessions alone. ALOG names another program.
+what differs from what is wanted, and how many passed and failed. With names it plays those sessions alone. ALOG names another program, as
+the one that is built without proof, which is slow: each command has 600 seconds then, and else 60.
 
 NAME.session has commands and what each answers. A line says by its first sign what it is:
 
@@ -31,7 +32,7 @@ sys.dont_write_bytecode = True
 from rows import bytes_of, of_bytes, rows
 
 PROGRAM = os.path.abspath(os.environ.get("ALOG", "crates/alog/out/alog"))
-SECONDS, BUILD_SECONDS = 60, 900
+SECONDS, BUILD_SECONDS = 600 if "ALOG" in os.environ else 60, 900
 # the program that README shows whole
 EXAMPLE = "crates/example_server/src/main.rt"
 
@@ -52,6 +53,14 @@ class Command:
         elif not ran.stderr or not ran.stderr.startswith(self.begins):
             found.append(("standard error", ran.stderr, self.begins))
         return next((f"{what} is {is_!r}, and is to be {wanted!r}" for what, is_, wanted in found if is_ != wanted), None)
+
+
+def ran_within(seconds, words, **options):
+    """Runs these words, and returns what became of them; nothing where they took longer."""
+    try:
+        return subprocess.run(words, timeout=seconds, **options)
+    except subprocess.TimeoutExpired:
+        return None
 
 
 def parts_of(file):
@@ -90,7 +99,8 @@ def play(file, bin):
                 with open(f"{room}/{it[0]}", "wb") as made:
                     made.write(it[1])
                 continue
-            fault = it.fault_of(subprocess.run(["sh", "-c", it.words], input=it.given, capture_output=True, cwd=room, env=env, timeout=SECONDS))
+            ran = ran_within(SECONDS, ["sh", "-c", it.words], input=it.given, capture_output=True, cwd=room, env=env)
+            fault = it.fault_of(ran) if ran else f"takes more than {SECONDS} seconds"
             passed += fault is None
             faults += [] if fault is None else [f"{it.place}: {it.words}: {fault}"]
     return passed, faults
@@ -102,11 +112,12 @@ def play_rows(folder):
     for row in rows(folder):
         with tempfile.TemporaryDirectory(prefix="alog-row-") as room:
             words = [room if it == "FOLDER" else it for it in row.words]
-            ran = subprocess.run([PROGRAM, *words], input=row.given, capture_output=True, timeout=SECONDS)
-        is_well = (ran.returncode, ran.stdout, ran.stderr) == (row.status, row.printed, row.errors)
+            ran = ran_within(SECONDS, [PROGRAM, *words], input=row.given, capture_output=True)
+        is_well = ran is not None and (ran.returncode, ran.stdout, ran.stderr) == (row.status, row.printed, row.errors)
         passed += is_well
         if not is_well:
-            faults.append(f"{folder}/{row.name}: {ran.returncode}, {of_bytes(ran.stdout)!r} and {of_bytes(ran.stderr)!r}")
+            said = f"{ran.returncode}, {of_bytes(ran.stdout)!r} and {of_bytes(ran.stderr)!r}" if ran else f"takes more than {SECONDS} seconds"
+            faults.append(f"{folder}/{row.name}: {said}")
     return passed, faults
 
 
@@ -133,8 +144,9 @@ def play_document(document, bin):
             # (README's first command is run as a newcomer's is, whose program is built without proof)
             first = f"{os.path.abspath('alog')} --unproved" if (document, place) == ("README.md", 0) else "alog"
             words = command.replace("./alog", first).replace("/tmp/logs", f"{room}/logs")
-            ran = subprocess.run(["sh", "-c", words], stdin=subprocess.DEVNULL, stdout=subprocess.PIPE, stderr=subprocess.STDOUT, cwd=room, env=env, timeout=BUILD_SECONDS)
-            seen = re.sub(r"\Aalog: building .*\n", "", of_bytes(ran.stdout)).replace(f"{room}/logs", "/tmp/logs")
+            ran = ran_within(BUILD_SECONDS, ["sh", "-c", words], stdin=subprocess.DEVNULL, stdout=subprocess.PIPE, stderr=subprocess.STDOUT, cwd=room, env=env)
+            said = of_bytes(ran.stdout) if ran else f"takes more than {BUILD_SECONDS} seconds"
+            seen = re.sub(r"\Aalog: building .*\n", "", said).replace(f"{room}/logs", "/tmp/logs")
             passed += seen == wanted
             faults += [] if seen == wanted else [f"{document}: {command}: is {seen!r}, and is to be {wanted!r}"]
     return passed, faults

@@ -4,13 +4,15 @@
 //! their levels, backtraces and work), `trial.rt` (what the others share), `log_tests.rt` (logs, flushes and dumps on a lent desk),
 //! `refusal_tests.rt`, `port_tests.rt` (the same on a running ring), `block_port_tests.rt` (on a ring of blocks), `wait_tests.rt`
 //! (with waiting), `thread_tests.rt` (a backtrace under a lock, by two threads), `dump_tests.rt` (dumps of such a backtrace that never
-//! wait) and `memory_tests.rt` (what a filtered text costs).
+//! wait), `memory_tests.rt` (what a filtered text costs) and `error_tests.rt` (what errors say, those of messages too).
 #![tactic(auto)]
 
 #[cfg(test)]
 mod block_port_tests;
 #[cfg(test)]
 mod dump_tests;
+#[cfg(test)]
+mod error_tests;
 #[cfg(test)]
 mod log_tests;
 #[cfg(test)]

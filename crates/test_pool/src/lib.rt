@@ -6,10 +6,12 @@
 //! `wait_tests.rt` (how it waits), `producer_tests.rt`, `pool_tests.rt` and `shutdown_tests.rt`; `gates.rt` (a gate that holds a
 //! worker), `gate_tests.rt` and `order_tests.rt` (which turn comes before which, and what a worker flushes of its own); `meeting_tests.rt` (sinks that wait for each
 //! other), `thread_tests.rt` (producers on threads of their own), `memory_tests.rt` (want of memory) and `reserved_tests.rt` (that
-//! posting takes none); last `load_tests.rt` (loads of small configurations). A test that calls a function over any host is dear,
+//! posting takes none); last `load_tests.rt` (loads of small configurations) and `error_tests.rt` (what errors say, those of servers too). A test that calls a function over any host is dear,
 //! whatever it does: so what differs by numbers and texts alone stands in rows.
 #![tactic(auto)]
 
+#[cfg(test)]
+mod error_tests;
 #[cfg(test)]
 mod gate_tests;
 #[cfg(test)]

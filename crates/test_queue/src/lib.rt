@@ -6,7 +6,7 @@
 //! a plain program, over a list of cells) with `words_tests.rt` (it beside the real one, on 1,000 schedules); `ring_tests.rt`,
 //! `crossing_tests.rt` and `step_tests.rt` (the running ring, its values from thread to thread, and what is met beside a push or a pop that is
 //! held); `swap_ring_tests.rt` and `swap_crossing_tests.rt` (the swap ring); `lane_tests.rt`; `desk_tests.rt` (posts on the stepped queue), `outlet_tests.rt`, `book_tests.rt` (the loss book), `port_tests.rt` (posts on a running ring), `swap_port_tests.rt`
-//! (on a swap ring) and `room_wait_tests.rt` (how long a post waits for room); `limits.rt` has the limits by their numbers.
+//! (on a swap ring) and `room_wait_tests.rt` (how long a post waits for room); `error_tests.rt` has what errors say, and `limits.rt` the limits by their numbers.
 #![tactic(auto)]
 
 #[cfg(test)]
@@ -15,6 +15,8 @@ mod book_tests;
 mod crossing_tests;
 #[cfg(test)]
 mod desk_tests;
+#[cfg(test)]
+mod error_tests;
 #[cfg(test)]
 mod lane_tests;
 mod limits;
