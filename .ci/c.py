@@ -162,7 +162,7 @@ def check_headers(compiler, room, count):
 
 def check_kinds(compiler, room, count):
     """A handle of a wrong kind is refused by the compiler."""
-    calls = ["alog_log(&pool, 0, ALOG_INFO, 0, 0, 0, 0)", "alog_work(&producer, 1, 0)", "alog_give_worker(&producer)", "alog_shutdown(&worker, 0)", "alog_close(&pool)", "alog_take(&producer, 0, 0, 0)"]
+    calls = ["alog_log(&pool, 0, ALOG_INFO, 0, 0, 0, 0)", "alog_work(&producer, 1, 0)", "alog_worker_faults(&producer, 0)", "alog_give_worker(&producer)", "alog_shutdown(&worker, 0)", "alog_close(&pool)", "alog_take(&producer, 0, 0, 0)"]
     for call in calls:
         with open(f"{room}/kinds.c", "w", encoding="utf-8") as it:
             it.write(f'#include "alog.h"\nint main(void) {{ alog_pool pool = {{0, 0}}; alog_producer producer = {{0, 0}}; alog_worker worker = {{0, 0}};\n(void)pool; (void)producer; (void)worker; return (int){call}; }}\n')

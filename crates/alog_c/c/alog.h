@@ -27,10 +27,11 @@
 
    Each sink has so many areas of ALOG_AREA bytes as the open was asked for. What workers write lies in them until it is taken. Where a worker
    wants one more and none is empty, its turn at the sink is a fault and the sink is broken: what was to be written there is missing, then and
-   from then on, and the report counts each such turn. A call of alog_work takes at most one area of a sink for each message that it ends, and
-   two more (alog_host.h says more). Before the end a worker is to work until it answers ALOG_IDLE, and what it wrote is to be taken: what is
-   left behind that the end of the pool writes, with nobody to empty an area meanwhile. Behind the end alog_take answers ALOG_ENDED when all was
-   taken that the pool told its files. What it could not tell them is among the faults of the report.
+   from then on. Each such turn is counted: alog_worker_faults tells those of a worker so far, and the report all. A call of alog_work takes at
+   most one area of a sink for each message that it ends, and two more (alog_host.h says more). Before the end a worker is to work until it
+   answers ALOG_IDLE, and what it wrote is to be taken: what is left behind that the end of the pool writes, with nobody to empty an area
+   meanwhile. Behind the end alog_take answers ALOG_ENDED when all was taken that the pool told its files. What it could not tell them is among
+   the faults of the report.
 
    Link with libalog_c.a, and behind it the kit's libos_c.a and liblibc_c.a. C99 or C++11 will do. */
 #ifndef ALOG_H
@@ -212,6 +213,7 @@ uint32_t alog_c_log_source(alog_producer *producer, uint32_t logger, uint32_t le
 uint32_t alog_c_flush(alog_producer *producer, uint32_t logger, uint64_t *ticket);
 uint32_t alog_c_dump(alog_producer *producer, uint32_t logger, int64_t time, size_t *posts);
 uint32_t alog_c_work(alog_worker *worker, size_t most, size_t *items);
+uint32_t alog_c_faults(alog_worker *worker, uint64_t *faults);
 uint32_t alog_c_give(void *part);
 uint32_t alog_c_shutdown(alog_pool *pool, alog_report *report);
 
@@ -376,6 +378,14 @@ static inline enum alog_answer alog_work(alog_worker *worker, size_t most, size_
 {
     size_t own = 0;
     return worker == NULL ? ALOG_NULL : alog_answer_of(alog_c_work(worker, most, items == NULL ? &own : items));
+}
+
+/* Tells in `faults` how many turns at sinks this worker made so far that were faults, as the report counts them, at most 2^64 - 1. Above 0 a
+   sink is broken, and its lines are missing from then on. It only looks; but it is a call on the handle, so the thread makes it that has the
+   worker, behind its alog_work. Where it is refused, `faults` is as it was. When the worker was given back, the report alone has its faults. */
+static inline enum alog_answer alog_worker_faults(alog_worker *worker, uint64_t *faults)
+{
+    return worker == NULL || faults == NULL ? ALOG_NULL : alog_answer_of(alog_c_faults(worker, faults));
 }
 
 /* Gives a producer back to its pool, and empties its handle; ALOG_BUSY_PART is to be tried again. */

@@ -38,7 +38,8 @@
    options say `sync`, to the disk, with the names of the folder; then a file is also brought there before it is closed or renamed.
 
    Areas. Each sink has so many areas of ALOG_AREA bytes (128 KiB), which workers fill and which are empty again when they were taken. A sink
-   that finds none empty is broken for good, which the report alone tells, so there have to be enough. A worker's call ends so many messages as `batch` says, and behind it
+   that finds none empty is broken for good, and its lines are missing from then on, so there have to be enough: alog_faults tells meanwhile
+   how many turns were answered so, and the report at the end. A worker's call ends so many messages as `batch` says, and behind it
    the worker takes all that lies there; while it waits for the lock of the files, at most one call of each worker lies there. A sink gives an
    area away at a flush, and where the next line has no room in it. A call so takes at most an area for each message, one that was begun
    before and one for the flush before it rests: workers * (batch + 2) areas are enough for lines of any length that a pattern may have, even
@@ -174,6 +175,9 @@ static inline enum alog_answer alog_options_test(alog_host *host, const alog_opt
 /* Forgets what a host was told and met before. */
 static inline void alog_host_clear(alog_host *host)
 {
+    size_t number;
+    for (number = 0; number < ALOG_WORKERS_MAX; number++)
+        host->seats[number].faults = 0;
     host->told[0] = 0;
     host->folder = host->held = -1;
     host->stopped.count = 0;

@@ -94,6 +94,8 @@ typedef struct alog_seat {
     /* of how many instructions its last pause was, and how many messages it ended since then */
     unsigned spins;
     size_t found;
+    /* how many of its turns at sinks were faults, for any thread; it stays there when the worker was given back */
+    uint64_t faults;
 } alog_seat;
 
 /* A file that is open, where its name has some bytes, when it was used last, and whether something was written that was not brought to the

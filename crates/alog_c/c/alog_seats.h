@@ -20,12 +20,35 @@ static inline enum alog_answer alog_give_back(void *part)
     return answer;
 }
 
+/* How many turns at sinks were faults since the start, of all workers, at most 2^64 - 1; by any thread, also while the host ends. Above 0 a sink is
+   broken, as one that found no empty area, and its lines are missing from then on. The number stays there when the host was stopped, until a next
+   start; the report has these, too, and the faults of the end itself. A host that was never started has none. */
+static inline uint64_t alog_faults(const alog_host *host)
+{
+    uint64_t sum = 0;
+    size_t number;
+    for (number = 0; number < ALOG_WORKERS_MAX; number++) {
+        const uint64_t own = __atomic_load_n(&host->seats[number].faults, __ATOMIC_ACQUIRE);
+        sum = own < UINT64_MAX - sum ? sum + own : UINT64_MAX;
+    }
+    return sum;
+}
+
+/* Tells all threads how many faults a worker met so far. */
+static inline void alog_seat_tell(alog_seat *seat)
+{
+    uint64_t faults = 0;
+    alog_worker_faults(&seat->worker, &faults);
+    __atomic_store_n(&seat->faults, faults, __ATOMIC_RELEASE);
+}
+
 /* Lets a worker write, and takes what it wrote. It rings for the room that it made, which it may have made though it ended nothing: behind
    many messages, and whenever it found no more. */
 static inline enum alog_answer alog_seat_work(alog_seat *seat)
 {
     size_t ended = 0;
     const enum alog_answer answer = alog_work(&seat->worker, seat->host->batch, &ended);
+    alog_seat_tell(seat);
     seat->ended += ended;
     seat->found += ended;
     if (ended > 0)

@@ -7,7 +7,7 @@
 
 ghost use Rattle.std.specs.Prelude.{◌≡◌, Some, None};
 ghost use Rattle.alog_ffi.specs.Answers.{number_of};
-ghost use Rattle.alog_ffi.specs.Calls.{AnswersDump, AnswersEnd, AnswersFind, AnswersFlush, AnswersGive, AnswersIsOn, AnswersLog, AnswersSetLevel, AnswersWork, MakesProducer, MakesWorker, OnProducer, OnWorker};
+ghost use Rattle.alog_ffi.specs.Calls.{AnswersDump, AnswersEnd, AnswersFaults, AnswersFind, AnswersFlush, AnswersGive, AnswersIsOn, AnswersLog, AnswersSetLevel, AnswersWork, MakesProducer, MakesWorker, OnProducer, OnWorker};
 ghost use Rattle.alog_ffi.specs.Files.{AnswersClose, AnswersFound, AnswersTake, IsUntaken, OnFiles};
 ghost use Rattle.alog_ffi.specs.Handles.{held};
 ghost use Rattle.alog_ffi.specs.Names.{AnswersNames};
@@ -233,6 +233,14 @@ pub extern "C" fn alog_c_work(
     ensures { (a : Answer) × (result ≡ number_of a) × OnWorker (held worker.old) (items.new ≡ 0) (AnswersWork most items.new) a (held worker.new) }
 {
     alog_ffi::work(alloc, worker, most, items).number()
+}
+
+/// Tells how many turns at sinks a worker made so far that were answered by a fault.
+#[unsafe(no_mangle)]
+pub extern "C" fn alog_c_faults(alloc: Global, worker: &mut AlogHandle, faults: &mut u64) -> u32
+    ensures { (a : Answer) × (result ≡ number_of a) × OnWorker (held worker.old) (faults.new ≡ faults.old) (AnswersFaults faults.new) a (held worker.new) }
+{
+    alog_ffi::faults(alloc, worker, faults).number()
 }
 
 /// Takes what is next to be done to the files of a sink.

@@ -38,6 +38,16 @@ static uint64_t end_all(uint64_t messages)
     return report.faults;
 }
 
+/* How many faults the worker tells, which it is asked twice. */
+static uint64_t worker_faults(void)
+{
+    uint64_t told = 99, again = 98;
+    EXPECT(alog_worker_faults(&worker, &told), ALOG_DONE);
+    EXPECT(alog_worker_faults(&worker, &again), ALOG_DONE);
+    EXPECT(again, told);
+    return told;
+}
+
 /* Logs so many texts of so many bytes, each of a letter of its own. */
 static void log_some(size_t count, size_t length)
 {
@@ -48,19 +58,27 @@ static void log_some(size_t count, size_t length)
 }
 
 /* Two areas have room for thirty lines of 8,192 bytes. Nobody takes them while forty are written, and the sink is broken then, also when there
-   is room again. */
+   is room again. The worker tells each line that is missing, and the flush before it rests; the report that of the end, too. */
 static void too_few(void)
 {
     uint64_t lines, faults;
     open_all(2, plain, "");
+    EXPECT(worker_faults(), 0);
     log_some(40, 8191);
+    EXPECT(alog_work(&worker, 30, NULL), ALOG_DONE);
+    EXPECT(worker_faults(), 0);
+    EXPECT(alog_work(&worker, 4, NULL), ALOG_DONE);
+    EXPECT(worker_faults(), 4);
     EXPECT(alog_work(&worker, 100, NULL), ALOG_IDLE);
+    EXPECT(worker_faults(), 11);
     EXPECT(take_all(&taken, &files), ALOG_IDLE);
     EXPECT(taken.takes, 2);
     EXPECT(taken_length(&taken, "log.txt"), 30 * 8192);
     log_some(5, 8191);
     EXPECT(alog_work(&worker, 100, NULL), ALOG_IDLE);
+    EXPECT(worker_faults(), 16);
     faults = end_all(45);
+    EXPECT(faults, 17);
     lines = (uint64_t)taken_length(&taken, "log.txt") / 8192;
     EXPECT(lines >= 30, 1);
     /* each line that is missing is a fault, and so may be the flushes of the worker and of the end */
@@ -80,6 +98,7 @@ static void taken_in_time(void)
         EXPECT(alog_work(&worker, 15, NULL), ALOG_DONE);
         EXPECT(take_all(&taken, &files), ALOG_IDLE);
     }
+    EXPECT(worker_faults(), 0);
     EXPECT(end_all(600), 0);
     EXPECT(taken_length(&taken, "log.txt"), 600 * 8192);
 }

@@ -1,14 +1,15 @@
 /* Each call of a host on its files fails in turn, is interrupted, or takes a byte or nothing: calls FOLDER. It is linked with --wrap for write, openat,
    renameat, unlinkat, fdatasync, fsync and close, and for the library's take. A call that fails is counted once and the rest goes on; the others
    lose nothing. Each open of a start fails in turn, or is interrupted. What was written is brought to the disk before its file is closed, and so are
-   the folder's names. And an end behind which the library does not say that all was taken is a failure. */
+   the folder's names. An end behind which the library does not say that all was taken is a failure. And while nothing is taken, areas run out, which
+   the host tells at once. */
 #define _GNU_SOURCE
 #include "alog_host.h"
 #include "trial.h"
 
 #include <stdarg.h>
 
-enum { LINES = 12, DESCRIPTORS = 1024 };
+enum { LINES = 12, DESCRIPTORS = 1024, SECONDS = 10 };
 
 static const char config[] = "queue = 64\n"
                              "[[sink]]\nname = \"a\"\nkind = \"rotating\"\nfile = \"a.txt\"\npattern = \"%v\"\nmax_size = 20\nmax_files = 1\n"
@@ -34,6 +35,8 @@ static int folder_syncs;
 static int is_endless, ends, is_refused;
 /* whether a write took nothing */
 static int took_nothing;
+/* whether takes find nothing, as if each came too late */
+static int is_held;
 
 /* Whether this call is the one, and of a kind of which that may become. */
 static int is_it(int goes_on, int is_write)
@@ -66,7 +69,7 @@ uint32_t __wrap_alog_c_take(alog_files *files, char *to, size_t room, size_t *le
 
 uint32_t __wrap_alog_c_take(alog_files *files, char *to, size_t room, size_t *length)
 {
-    const uint32_t answer = __real_alog_c_take(files, to, room, length);
+    const uint32_t answer = __atomic_load_n(&is_held, __ATOMIC_SEQ_CST) ? ALOG_IDLE : __real_alog_c_take(files, to, room, length);
     ends += answer == ALOG_ENDED;
     return answer == ALOG_ENDED && is_endless ? ALOG_IDLE : answer;
 }
@@ -253,6 +256,48 @@ static void end_once(const char *folder, int endless)
     EXPECT(first, endless ? EIO : 0);
 }
 
+/* Waits until a host tells so many faults. */
+static void meets(uint64_t faults)
+{
+    const int64_t end = alog_now() + SECONDS * (int64_t)1000000000;
+    while (alog_faults(&host) < faults && alog_now() < end)
+        sched_yield();
+    EXPECT(alog_faults(&host), faults);
+}
+
+/* A host whose sink has three areas, one of which each message takes, by its line and a flush: when they are not taken in time the sink is broken
+   for good. The host tells both turns of each message that is missing before the end, and the report these and the flush of the end. The next start
+   forgets them. */
+static void run_out(const char *folder)
+{
+    static const alog_options options = {1, 1, 3, 0};
+    static const char one[] = "queue = 64\n[[sink]]\nname = \"e\"\nkind = \"memory\"\nfile = \"e.txt\"\npattern = \"%v\"\n"
+                              "[[logger]]\nname = \"net\"\nflush_on = \"info\"\nsinks = [\"e\"]\n";
+    alog_client client = {NULL, {0, NULL}};
+    alog_report report;
+    EXPECT(alog_start_with(&host, one, sizeof one - 1, folder, &options), ALOG_DONE);
+    EXPECT(alog_faults(&host), 0);
+    EXPECT(alog_client_open(&host, &client), ALOG_DONE);
+    __atomic_store_n(&is_held, 1, __ATOMIC_SEQ_CST);
+    for (int i = 0; i < 5; i++)
+        EXPECT(alog_log_wait(&client, 0, ALOG_INFO, "of ten...", 9), ALOG_DONE);
+    meets(4);
+    __atomic_store_n(&is_held, 0, __ATOMIC_SEQ_CST);
+    EXPECT(alog_log_wait(&client, 0, ALOG_INFO, "of ten...", 9), ALOG_DONE);
+    meets(6);
+    EXPECT(alog_client_close(&client), ALOG_DONE);
+    EXPECT(alog_stop(&host, &report), ALOG_DONE);
+    EXPECT(report.handled, 6);
+    EXPECT(report.faults, 7);
+    EXPECT(alog_faults(&host), 6);
+    EXPECT(host.failures, 0);
+    EXPECT(length_of(folder, "e.txt"), 30);
+    EXPECT(alog_start_with(&host, one, sizeof one - 1, folder, &options), ALOG_DONE);
+    EXPECT(alog_faults(&host), 0);
+    EXPECT(alog_stop(&host, &report), ALOG_DONE);
+    EXPECT(report.faults, 0);
+}
+
 /* A start while the call of this number goes wrong; answers whether there was one. It is refused where that was an open that failed, and nothing
    is left of it. */
 static int begin(const char *folder, int number)
@@ -287,6 +332,7 @@ int main(int argc, char **argv)
     }
     flush_seldom(argv[1]);
     names_again(argv[1]);
+    run_out(argv[1]);
     end_once(argv[1], 0);
     end_once(argv[1], 1);
     for (int at = FAILS; at <= INTERRUPTED; at++) {

@@ -50,6 +50,28 @@ namespace {
 const std::string config = "queue = 2\n[[sink]]\nname = \"file\"\nkind = \"memory\"\nfile = \"log.txt\"\npattern = \"%v %s %!\"\n"
                            "[[logger]]\nname = \"net\"\nsinks = [\"file\"]\n";
 
+// A sink that makes a thousand records for each line, and so wants more areas than the options say for lines in a row: it is broken, which the host tells
+// while it runs. The report counts that, and the flush of the end.
+void areas_that_run_out(const std::string &folder) {
+    const std::string name(60, 'r');
+    const auto host = alog::make_host("queue = 64\ntext = 8191\n[[sink]]\nname = \"file\"\nkind = \"rotating\"\nfile = \"" + name +
+                                          ".txt\"\nmax_size = 1\nmax_files = 1000\npattern = \"%v%v%v%v\"\n[[logger]]\nname = \"net\"\nsinks = [\"file\"]\n",
+                                      folder, 1);
+    const alog::logger net(host, "net");
+    const std::string text(8191, 'x');
+    EXPECT(host->faults(), 0);
+    std::uint64_t count = 0;
+    while (host->faults() == 0 && count < 1000) {
+        net.info("{}", text);
+        count++;
+    }
+    EXPECT(host->faults() > 0, 1);
+    const alog_report report = host->stop();
+    EXPECT(report.handled, count);
+    EXPECT(report.faults, host->faults() + 1);
+    EXPECT(host->failures() + host->refused(), 0);
+}
+
 // Who sets levels and finds loggers while a host stops is refused at its end, and the stop goes.
 void calls_beside_stop(const std::string &folder) {
     for (int round = 0; round < 100; round++) {
@@ -280,6 +302,7 @@ int main(int argc, char **argv) {
     odd_folder(argv[1]);
     stops_behind_loans(argv[1]);
     failures(argv[1]);
+    areas_that_run_out(argv[1]);
 #ifndef IS_SANITIZED
     children(argv[1]);
     children_beside_stop(argv[1]);

@@ -22,7 +22,7 @@ static alog_producer producer;
 static alog_worker worker;
 static alog_report report;
 static uint32_t number = 99;
-static uint64_t ticket = 99;
+static uint64_t ticket = 99, faults = 99;
 static char told[200];
 static char area[ALOG_AREA];
 static size_t length = 99;
@@ -91,6 +91,9 @@ static void nulls(void)
     EXPECT(alog_flush(NULL, 0, NULL), ALOG_NULL);
     EXPECT(alog_dump(NULL, 0, 0, NULL), ALOG_NULL);
     EXPECT(alog_work(NULL, 1, NULL), ALOG_NULL);
+    EXPECT(alog_worker_faults(NULL, &faults), ALOG_NULL);
+    EXPECT(alog_worker_faults(&worker, NULL), ALOG_NULL);
+    EXPECT(faults, 99);
     EXPECT(alog_give_producer(NULL), ALOG_NULL);
     EXPECT(alog_give_worker(NULL), ALOG_NULL);
     EXPECT(alog_shutdown(NULL, &report), ALOG_NULL);
@@ -111,6 +114,8 @@ static void empty_handles(void)
     EXPECT(alog_flush(&producer, 0, NULL), ALOG_NO_HANDLE);
     EXPECT(alog_dump(&producer, 0, 0, NULL), ALOG_NO_HANDLE);
     EXPECT(alog_work(&worker, 1, NULL), ALOG_NO_HANDLE);
+    EXPECT(alog_worker_faults(&worker, &faults), ALOG_NO_HANDLE);
+    EXPECT(faults, 99);
     EXPECT(alog_give_producer(&producer), ALOG_NO_HANDLE);
     EXPECT(alog_give_worker(&worker), ALOG_NO_HANDLE);
     EXPECT(alog_shutdown(&pool, &report), ALOG_NO_HANDLE);
@@ -141,6 +146,7 @@ static void founds(void)
     EXPECT(alog_is_on_in_pool(as_pool(&files), 0, ALOG_INFO), ALOG_WRONG_HANDLE);
     EXPECT(alog_log(as_producer(&files), 0, ALOG_INFO, 0, "x", 1, NULL), ALOG_WRONG_HANDLE);
     EXPECT(alog_work(as_worker(&files), 1, NULL), ALOG_WRONG_HANDLE);
+    EXPECT(alog_worker_faults(as_worker(&files), &faults), ALOG_WRONG_HANDLE);
     EXPECT(files.kind, 4);
     EXPECT(producer.kind, 0);
     EXPECT(alog_close(&files), ALOG_DONE);
@@ -260,6 +266,10 @@ static void wrong_handles(void)
     EXPECT(alog_work(as_worker(&producer), 1, NULL), ALOG_WRONG_HANDLE);
     EXPECT(alog_work(as_worker(&pool), 1, NULL), ALOG_WRONG_HANDLE);
     EXPECT(alog_work(as_worker(&files), 1, NULL), ALOG_WRONG_HANDLE);
+    EXPECT(alog_worker_faults(as_worker(&producer), &faults), ALOG_WRONG_HANDLE);
+    EXPECT(alog_worker_faults(as_worker(&pool), &faults), ALOG_WRONG_HANDLE);
+    EXPECT(alog_worker_faults(as_worker(&files), &faults), ALOG_WRONG_HANDLE);
+    EXPECT(faults, 99);
     EXPECT(alog_give_producer(as_producer(&pool)), ALOG_WRONG_HANDLE);
     EXPECT(alog_give_worker(as_worker(&files)), ALOG_WRONG_HANDLE);
     EXPECT(alog_shutdown(as_pool(&producer), &report), ALOG_WRONG_HANDLE);
@@ -404,6 +414,9 @@ static void ends(void)
     EXPECT(alog_give_producer(&producer), ALOG_NO_HANDLE);
     EXPECT(alog_shutdown(&pool, &report), ALOG_PARTS_OUT);
     EXPECT(report.asked, 99);
+    EXPECT(alog_worker_faults(&worker, &faults), ALOG_DONE);
+    EXPECT(faults, 0);
+    faults = 99;
     EXPECT(alog_give_worker(&worker), ALOG_DONE);
     EXPECT(alog_work(&worker, 1, NULL), ALOG_NO_HANDLE);
     EXPECT(alog_shutdown(&pool, &report), ALOG_DONE);

@@ -14,6 +14,7 @@ use Rattle.alog_ffi.specs.declared.part.Part.{Part}
 use Rattle.alog_ffi.specs.declared.part.Part.TheVariants.{Nothing, Pool, Producer, Worker}
 use Rattle.alog_ffi.specs.declared.report.AlogReport.{AlogReport}
 use Rattle.alog_ffi.specs.declared.said.Said.{Said}
+use Rattle.alog_hosted.specs.Faults.{faults_of}
 use Rattle.alog_hosted.specs.declared.once.Once.{Once}
 use Rattle.alog_hosted.specs.declared.once.Once.TheVariants.{Logged}
 use Rattle.alog_hosted.specs.declared.worker.Work.{Work}
@@ -78,6 +79,10 @@ module _ {S : Type 0} where
 
   abbrev pub AnswersWork : ℕ → ℕ → OwnedWorkerView S → Answer → OwnedWorkerView S → Type 0
   AnswersWork most items old a new = (w : Work) × WorksBy most old w new × (items ≡ w.items) × (a ≡ answer_of_pause w.pause)
+
+  -- A worker's faults so far are told, and it stays as it was.
+  abbrev pub AnswersFaults : ℕ → OwnedWorkerView S → Answer → OwnedWorkerView S → Type 0
+  AnswersFaults told old a new = (new ≡ old) × (told ≡ faults_of old.worker) × (a ≡ answer.Done)
 
 -- A producer of the pool was made and is held, or there were too many already, or no memory, and then nothing changed.
 abbrev pub AnswersProducer : Part → OwnedPoolView OutboxView → Answer → OwnedPoolView OutboxView → Type 0

@@ -7,7 +7,7 @@
 //! handed out by `take`.
 //!
 //! Read `answer.rt` with `specs/Answers.antt`; `part.rt`, `handle.rt`, `holding.rt` and `slot.rt` with `specs/Held.antt`; `said.rt`, `hearing.rt`, `logging.rt`; `opening.rt`, `naming.rt` and `places.rt`; and the
-//! calls with `specs/Calls.antt`: `pools.rt`, `producers.rt`, `workers.rt`, `files.rt`, `giving.rt`.
+//! calls with `specs/Calls.antt`: `pools.rt`, `producers.rt`, `workers.rt`, `watching.rt`, `files.rt`, `giving.rt`.
 #![tactic(auto)]
 
 mod answer;
@@ -27,6 +27,7 @@ mod producers;
 mod report;
 mod said;
 mod slot;
+mod watching;
 mod workers;
 
 pub use answer::Answer;
@@ -44,4 +45,5 @@ pub use producers::{dump, find, flush, is_on, log, set_level};
 pub use report::AlogReport;
 pub use said::{Heard, Said, Source};
 pub use slot::Slot;
+pub use watching::faults;
 pub use workers::work;

@@ -1,7 +1,7 @@
 //! What a pool answers at its end.
-ghost use Rattle.std.specs.Prelude.{◌≡◌, ◌-◌, ◌^◌, ℕ, min};
-ghost use Rattle.std.specs.List.{sum_by};
+ghost use Rattle.std.specs.Prelude.{◌≡◌, ℕ};
 ghost use Rattle.alog_ffi.specs.Reports.{IsReportOf};
+ghost use Rattle.alog_hosted.specs.Faults.{capped_sum_by};
 
 use alog_pool::Report;
 use alog_sink::Store;
@@ -35,7 +35,7 @@ pub(crate) fn report_of<S: Store>(report: &Report<S>) -> AlogReport
 
 /// The sum of these, at most 2^64 - 1.
 fn sum_of(counts: &[u64]) -> u64
-    ensures { result ≡ min (sum_by (λ (n : ℕ). n) counts.now) (2 ^ 64 - 1) }
+    ensures { result ≡ capped_sum_by (λ (n : ℕ). n) counts.now }
 {
     let mut sum: u64 = 0;
     for count in counts {

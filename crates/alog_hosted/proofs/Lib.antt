@@ -9,4 +9,5 @@ mod Disbanding
 mod Balanced
 mod Standing
 mod Lines
+mod Counted
 pub mod SharedCrosses

@@ -1,6 +1,7 @@
 pub mod Lent
 pub mod Owed
 pub mod Workers
+pub mod Faults
 pub mod Host
 pub mod Once
 pub mod Outfit

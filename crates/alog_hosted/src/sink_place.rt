@@ -100,6 +100,13 @@ impl<S: Store> SinkPlace<S> {
         self.serve_once(lane, TICKET_END, &flush, line)
     }
 
+    /// How many faults were counted.
+    pub(crate) fn faults(&self) -> u64
+        ensures { result ≡ self.now.faults }
+    {
+        self.faults
+    }
+
     /// How many faults were counted; from then on they are counted from none.
     pub(crate) fn take_faults(&mut self) -> u64
         ensures taken { result ≡ self.old.faults }

@@ -1,5 +1,6 @@
 //! Workers that are lent their pool.
 ghost use Rattle.std.specs.Prelude.{◌≡◌, ◌↔◌, ◌≤◌, ◌∷◌, ◌++◌, [], IsTrue, take, length, vec_capacity, IfSome, None};
+ghost use Rattle.alog_hosted.specs.Faults.{capped_sum_by, faults_of};
 ghost use Rattle.alog_hosted.specs.Workers.{HasEnded, IsPause, IsSameWorker, IsWorkerOf};
 ghost use Rattle.alog_msg.specs.declared.item.Item.{Item as It};
 ghost use Rattle.alog_msg.specs.declared.item.Item.TheVariants.{Stop};
@@ -103,6 +104,15 @@ impl<S: Store> HostedWorker<S> {
         ensures { result ≡ self.now.number }
     {
         self.number
+    }
+
+    /// How many turns at sinks this worker made so far that were answered by a fault, at most 2^64 - 1. A sink that is broken answers each turn by one,
+    /// so that it grows from then on with each line that is missing.
+    pub fn faults(&self) -> u64
+        ensures turns { result ≡ faults_of self.now }
+        ensures counted { result ≡ capped_sum_by (λ p. p.faults) self.now.places }
+    {
+        faults_counted(&self.places)
     }
 
     /// Takes items out of the queue and writes their lines, at most so many items, and answers how many it ended and why it stopped. It never
@@ -242,6 +252,17 @@ fn note(tickets: &mut Vec<u64>, most: usize, ticket: u64)
     if tickets.len() < most {
         tickets.push_reserved(ticket);
     }
+}
+
+/// How many faults these places counted, at most 2^64 - 1.
+fn faults_counted<S: Store>(places: &[SinkPlace<S>]) -> u64
+    ensures { result ≡ capped_sum_by (λ p. p.faults) places.now }
+{
+    let mut sum: u64 = 0;
+    for place in places {
+        sum = sum.saturating_add(place.faults());
+    }
+    sum
 }
 
 /// Whether the item is a stop, which makes no turn and is not counted.

@@ -1,6 +1,7 @@
 //! A worker that owns its share of the pool.
 ghost use Rattle.std.specs.Prelude.{◌≡◌, IfErr};
 ghost use Rattle.std.specs.Arc.{arc_value};
+ghost use Rattle.alog_hosted.specs.Faults.{faults_of};
 ghost use Rattle.alog_hosted.specs.Workers.{IsWorkerOf};
 ghost use Rattle.alog_owned.specs.Desk.{IsPassAt};
 ghost use Rattle.alog_owned.specs.Owned.{WorksBy};
@@ -65,6 +66,13 @@ impl<S: Store> OwnedWorker<S> {
         ensures { result ≡ self.now.worker.number }
     {
         self.worker.number()
+    }
+
+    /// How many turns at sinks it made so far that were answered by a fault, as `HostedWorker::faults` does.
+    pub fn faults(&self) -> u64
+        ensures { result ≡ faults_of self.now.worker }
+    {
+        self.worker.faults()
     }
 
     /// Writes the lines of up to so many items, as `HostedWorker::work_some` does.

@@ -1,4 +1,4 @@
-//! What becomes of messages: policies where the queue is full, flushes and dumps.
+//! What becomes of messages: policies where the queue is full, flushes and dumps, and sinks whose areas run out.
 use crate::rows::{NOTHING, Row, wrong_of};
 use crate::trial::{AREA, Deed, FILES, Opening, POOL, SECOND, TALKER, UNTOLD, WRITER};
 use alog_ffi::Answer;
@@ -159,5 +159,67 @@ static KEEPS: &[Row<'static>] = &[
 #[test]
 fn a_logger_that_keeps(rt: HostRuntime) {
     let wrong = wrong_of(rt.alloc(), [OPEN, KEEPS, NOTHING], 0);
+    assert!(rt; wrong.is_none(), "{wrong:?}");
+}
+
+/// Two sinks of one area each: of the first logger one of them, of the second both.
+const TWO_SINKS: Opening<'static> = Opening {
+    document: b"queue = 8\nworkers = 2\n[[sink]]\nname = \"main\"\nkind = \"memory\"\npattern = \"%v\"\n\
+[[sink]]\nname = \"side\"\nkind = \"memory\"\npattern = \"%v\"\n\
+[[logger]]\nname = \"app\"\nsinks = [\"main\"]\n[[logger]]\nname = \"both\"\nsinks = [\"main\", \"side\"]\n",
+    producers: 1,
+    areas: 1,
+    room: 100,
+    words: b"",
+};
+
+static FULL: &[Row<'static>] = &[
+    (Deed::Opens(POOL, FILES, TWO_SINKS), Answer::Done),
+    (Deed::Makes(POOL, TALKER), Answer::Done),
+    (Deed::Hires(POOL, WRITER), Answer::Done),
+    (Deed::Hires(POOL, SECOND), Answer::Done),
+    (Deed::Fails(WRITER, 0), Answer::Done),
+    (Deed::Logs(TALKER, 1, 2, b"a", 0), Answer::Done),
+    (Deed::Works(WRITER, 9, 1), Answer::Idle),
+    (Deed::Fails(WRITER, 0), Answer::Done),
+    (Deed::Logs(TALKER, 0, 2, b"b", 1), Answer::Done),
+    (Deed::Works(WRITER, 9, 1), Answer::Idle),
+    (Deed::Fails(WRITER, 1), Answer::Done),
+    (Deed::Logs(TALKER, 1, 2, b"c", 2), Answer::Done),
+    (Deed::Works(WRITER, 9, 1), Answer::Idle),
+    (Deed::Fails(WRITER, 3), Answer::Done),
+];
+
+/// (the sinks are broken for good)
+static EMPTIED: &[Row<'static>] = &[
+    (
+        Deed::Takes(FILES, AREA, &[(1, b"main", b"a\n"), (4, b"main", b"")]),
+        Answer::Done,
+    ),
+    (
+        Deed::Takes(FILES, AREA, &[(1, b"side", b"a\n"), (4, b"side", b"")]),
+        Answer::Done,
+    ),
+    (Deed::Logs(TALKER, 0, 2, b"d", 3), Answer::Done),
+    (Deed::Works(WRITER, 9, 1), Answer::Idle),
+    (Deed::Fails(WRITER, 4), Answer::Done),
+    (Deed::Fails(WRITER, 4), Answer::Done),
+    (Deed::Fails(SECOND, 0), Answer::Done),
+    (Deed::Logs(TALKER, 1, 2, b"e", 4), Answer::Done),
+    (Deed::Works(SECOND, 9, 1), Answer::Idle),
+    (Deed::Fails(SECOND, 2), Answer::Done),
+    (Deed::Fails(WRITER, 4), Answer::Done),
+    (Deed::Gives(TALKER), Answer::Done),
+    (Deed::Gives(WRITER), Answer::Done),
+    (Deed::Gives(SECOND), Answer::Done),
+    (Deed::Ends(POOL, [5, 5, 0, 0, 5, 8]), Answer::Done),
+    (Deed::Closes(FILES), Answer::Done),
+];
+
+/// A worker tells each turn at a sink that found no empty area, or came behind one that did, at all of its sinks, and none of another worker. The report
+/// counts those of both, and the flush of each sink at the end.
+#[test]
+fn areas_that_run_out(rt: HostRuntime) {
+    let wrong = wrong_of(rt.alloc(), [FULL, EMPTIED, NOTHING], 0);
     assert!(rt; wrong.is_none(), "{wrong:?}");
 }

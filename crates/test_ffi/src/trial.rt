@@ -1,8 +1,9 @@
 //! Handles that are tried, and each call on them, with what it tells beside its answer.
 use crate::records::{Record, has_records};
 use alog_ffi::{
-    AlogHandle, AlogReport, Answer, Asked, Said, Source, close, dump, file_names, find, flush,
-    found, give, is_on, log, open, producer, queue_places, set_level, shutdown, take, work, worker,
+    AlogHandle, AlogReport, Answer, Asked, Said, Source, close, dump, faults, file_names, find,
+    flush, found, give, is_on, log, open, producer, queue_places, set_level, shutdown, take, work,
+    worker,
 };
 use std::alloc::{AllocError, Global};
 use std::mem::{self, ManuallyDrop};
@@ -101,6 +102,8 @@ pub enum Deed<'a> {
     Dumps(usize, u32, u64),
     /// A worker ends items, at most so many: how many it ended.
     Works(usize, usize, u64),
+    /// The faults of a worker so far are told: how many.
+    Fails(usize, u64),
     /// What is next to be done to files is taken, into so many bytes: its records.
     Takes(usize, usize, &'a [Record<'a>]),
     /// A part is given back.
@@ -296,6 +299,14 @@ impl Trial {
         (answer, is_counted(answer, items, wanted))
     }
 
+    fn fails(&mut self, at: usize, wanted: u64) -> Seen {
+        let mut count = UNTOLD;
+        let mut own = self.out(at);
+        let answer = faults(self.alloc, &mut own, &mut count);
+        self.back(at, own);
+        (answer, is_told(answer, count, wanted))
+    }
+
     /// Takes what is next into the memory for it, and answers how many bytes that are.
     pub fn take(&mut self, at: usize, room: usize) -> (Answer, usize) {
         let mut length = 99;
@@ -394,6 +405,7 @@ impl Trial {
             Deed::Flushes(at, logger, ticket) => self.flushes(at, logger, ticket),
             Deed::Dumps(at, logger, posts) => self.dumps(at, logger, posts),
             Deed::Works(at, most, items) => self.works(at, most, items),
+            Deed::Fails(at, count) => self.fails(at, count),
             Deed::Takes(at, room, records) => self.takes(at, room, records),
             Deed::Gives(at) => self.gives(at),
             Deed::Ends(at, totals) => self.ends(at, totals),

@@ -89,3 +89,35 @@ static FLUSH: Row<'static> = Row {
 fn a_flush_that_fails_is_counted(rt: HostRuntime) {
     holds(&rt, rt.alloc(), &FLUSH);
 }
+
+static TOLD: Row<'static> = Row {
+    routes: &[&[0, 1]],
+    fuses: &[1, 2],
+    deeds: &[
+        Deed::Says(0, "one", Told::Posted(0)),
+        Deed::Works(0, 1, 1, Pause::Done),
+        Deed::Fails(0, 0),
+        Deed::Says(0, "two", Told::Posted(1)),
+        Deed::Works(0, 1, 1, Pause::Done),
+        Deed::Fails(0, 1),
+        Deed::Says(0, "six", Told::Posted(2)),
+        Deed::Works(0, 1, 1, Pause::Done),
+        Deed::Fails(0, 3),
+        Deed::Works(0, 9, 0, Pause::Idle),
+        Deed::Fails(0, 5),
+        Deed::Works(0, 9, 0, Pause::Idle),
+        Deed::Fails(0, 5),
+    ],
+    totals: (3, 0, 0),
+    tickets: &[&[0, 1, 2]],
+    faults: &[4, 3],
+    files: &[b"one\ntwo", b"one\ntwo\nsix"],
+    ..ONE
+};
+
+/// A worker tells the faults of all its sinks so far: none, one at the first sink, one more at each, and those of its own flushes. The report has those of
+/// the end, too.
+#[test]
+fn faults_are_told_so_far(rt: HostRuntime) {
+    holds(&rt, rt.alloc(), &TOLD);
+}

@@ -46,6 +46,8 @@ pub enum Deed<'a> {
     Sets(u32, Level),
     /// The worker of this number ends items, at most so many, and says how many it ended and why it stopped.
     Works(usize, usize, usize, Pause),
+    /// The worker of this number tells so many faults.
+    Fails(usize, u64),
     /// The host makes no worker more.
     HiresNone,
 }
@@ -192,6 +194,12 @@ fn works<S: Store + Drop>(
     assert!(rt; work == wanted, "{work:?}");
 }
 
+/// The worker of this number tells so many faults.
+fn fails<S: Store + Drop>(rt: &impl Abort, trial: &Trial<S>, worker: usize, wanted: u64) {
+    let faults = trial.faults(rt, worker);
+    assert!(rt; faults == wanted, "{faults}");
+}
+
 /// One of them does so.
 fn does<S: Store + Drop>(rt: &impl Abort, alloc: Global, trial: &mut Trial<S>, deed: Deed<'_>) {
     match deed {
@@ -207,6 +215,7 @@ fn does<S: Store + Drop>(rt: &impl Abort, alloc: Global, trial: &mut Trial<S>, d
         Deed::Works(worker, most, items, pause) => {
             works(rt, trial, worker, most, Work { items, pause })
         }
+        Deed::Fails(worker, faults) => fails(rt, trial, worker, faults),
         Deed::HiresNone => trial.hires_none(rt),
     }
 }

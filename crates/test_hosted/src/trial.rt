@@ -411,6 +411,12 @@ impl<S: Store + Drop> Trial<S> {
         work_some(&mut self.workers[number], &self.hosted, most)
     }
 
+    /// How many faults the worker of this number tells.
+    pub fn faults(&self, rt: &impl Abort, number: usize) -> u64 {
+        assert!(rt; number < self.workers.len());
+        self.workers[number].faults()
+    }
+
     /// From now on the logger of this number has this level.
     pub fn set_level(&self, rt: &impl Abort, logger: u32, level: Level) {
         assert!(rt; self.hosted.loggers().set_level(logger, level));
