@@ -19,7 +19,8 @@ use Rattle.alog_pool.specs.Stops.{AreStops}
 use Rattle.alog_pool.specs.declared.worker.Worker.{Worker}
 use Rattle.alog_pool.proofs.Leaving.{claims_between, none_weighs}
 use Rattle.alog_pool.proofs.SharedMoves.{claims-append}
-use Rattle.alog_pool.proofs.Posted.{later_at, of_map, put_seen, seen_put}
+use Rattle.alog_pool.proofs.Posted.{put_seen, seen_put}
+use Rattle.alog_pool.proofs.SharedContained.{later_at, of_map}
 use Rattle.alog_registry.specs.BlockPort.{block_note}
 use Rattle.alog_ring.specs.Known.{Known}
 

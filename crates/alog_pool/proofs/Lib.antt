@@ -21,6 +21,8 @@ pub mod SharedServed
 pub mod SharedClosed
 pub mod SharedTotalled
 pub mod SharedHeld
+pub mod SharedContained
+pub mod SharedPosted
 mod Posted
 mod InARow
 pub mod SharedWorkers

@@ -20,7 +20,8 @@ use Rattle.alog_pool.specs.Workers.{AreAllWritten}
 use Rattle.alog_pool.specs.declared.worker.Worker.{Worker}
 use Rattle.alog_pool.specs.declared.report.Report.{Report}
 use Rattle.alog_pool.proofs.InARow.{in_a_row}
-use Rattle.alog_pool.proofs.Posted.{posted, work_by, work_weighs}
+use Rattle.alog_pool.proofs.Posted.{posted, work_by}
+use Rattle.alog_pool.proofs.SharedPosted.{work_weighs}
 use Rattle.alog_pool.proofs.SharedWorkers.{closed_all, merged_alone, put_nothing, rows_made, works_rise}
 use Rattle.alog_registry.specs.BlockPort.{block_note}
 use Rattle.alog_ring.specs.Known.{Known}

@@ -25,7 +25,8 @@ use Rattle.alog_pool.specs.declared.worker.Worker.{Worker}
 use Rattle.alog_pool.proofs.SharedBack.{sum_of_map}
 use Rattle.alog_pool.proofs.SharedHeld.{Turn, texts_held}
 use Rattle.alog_pool.proofs.InARow.{in_a_row}
-use Rattle.alog_pool.proofs.Posted.{posted, work_by, work_dues, work_tickets_are}
+use Rattle.alog_pool.proofs.Posted.{posted, work_by}
+use Rattle.alog_pool.proofs.SharedPosted.{work_dues, work_tickets_are}
 use Rattle.alog_pool.proofs.SharedServed.{rising_works}
 use Rattle.alog_pool.specs.declared.shared.Shared.{Shared}
 use Rattle.alog_sink.specs.Files.{Files}
