@@ -24,6 +24,7 @@ pub mod SharedHeld
 pub mod SharedContained
 pub mod SharedPosted
 mod Posted
+pub mod SharedInARow
 mod InARow
 pub mod SharedWorkers
 mod OneWorker

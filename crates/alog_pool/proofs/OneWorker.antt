@@ -74,7 +74,7 @@ module _ {S : Type 0} (tells : Bool) (files : S → Files) (failures : S → ℕ
         rise = rises.0;
         are = subst (λ (items : List (ℕ × Item)). ArePosted producers items) (append-nil (work_by h))
             (posted producers (h ∷ []) end moment.whole members stops idle out);
-        row = subst (λ (f : ℕ). AreInARow f producers) first (in_a_row producers (h ∷ []) end moment members stops idle out);
+        row = subst (λ (f : ℕ). AreInARow f producers) first (in_a_row producers (h ∷ []) end moment members stops idle);
         posted = posted_weighs producers h out;
         written = written_alone 0 lanes r.sinks.items r.faults.items dues
             (closed_all tells files failures 0 lanes (h.sink_seats.items ∷ []) r.sinks.items r.faults.items (dues ∷ []) closed

@@ -1,11 +1,11 @@
 -- What the producers of a pool posted and none of them overran is what its workers took.
-use Rattle.std.proofs.Common.{◌≡◌, ◌≢◌, ℕ, ◌+◌, List, [], ◌∷◌, ◌++◌, map, Contains, refl, subst, arith}
+use Rattle.std.proofs.Common.{◌≡◌, ℕ, ◌+◌, List, [], ◌∷◌, ◌++◌, map, refl, subst, arith}
 use Rattle.std.specs.List.{AllByRecursion, sum_by}
 use Rattle.alog_core.specs.Accounts.{claimed, claims, takes, taken, weigh}
 use Rattle.alog_msg.specs.declared.item.Item.{Item}
 use Rattle.alog_msg.specs.declared.item.Item.TheVariants.{Stop}
 use Rattle.alog_pool.specs.Back.{pass_member, worker_member}
-use Rattle.alog_pool.specs.Posted.{ArePosted, IsPutIn, works_in}
+use Rattle.alog_pool.specs.Posted.{ArePosted, works_in}
 use Rattle.alog_pool.specs.Producer.{ProducerView}
 use Rattle.alog_pool.specs.Report.{AllCameOut}
 use Rattle.alog_pool.specs.Stops.{AreStops}
@@ -29,10 +29,10 @@ module _ {S : Type 0} where
   work_by h = works_in (takes h.pass.known.own)
 
   -- what comes back of workers
-  abbrev back_of : List (Worker S) → List One
+  abbrev pub back_of : List (Worker S) → List One
   back_of hs = map (λ (h : Worker S). worker_member h) hs
 
-  all_idle : (hs : List (Worker S)) → AllByRecursion (λ (h : Worker S). claims h.pass.known.own ≡ []) hs
+  pub all_idle : (hs : List (Worker S)) → AllByRecursion (λ (h : Worker S). claims h.pass.known.own ≡ []) hs
       → AllByRecursion (λ (m : One). claims m.own ≡ []) (back_of hs)
   all_idle [] idle = tt
   all_idle (h ∷ hs) idle = (idle.0, all_idle hs idle.1)
@@ -45,12 +45,6 @@ module _ {S : Type 0} (producers : List ProducerView) (crew : List (Worker S)) (
     (members : end.joined ≡ map pass_member producers ++ map (λ (h : Worker S). worker_member h) crew)
     (stops : AreStops (claims end.own)) (idle : AllByRecursion (λ (h : Worker S). claims h.pass.known.own ≡ []) crew)
     (out : AllCameOut producers crew) where
-  pub put_seen : (i : Given) → IsPutIn producers i → Contains (claims end.seen) i
-  put_seen = any.put_seen producers (back_of crew) end whole members stops (all_idle crew idle)
-
-  pub seen_put : (i : Given) → i.1 ≢ Stop → Contains (claims end.seen) i → IsPutIn producers i
-  seen_put = any.seen_put producers (back_of crew) end whole members stops (all_idle crew idle)
-
   came : (w : ℕ → Item → ℕ) → ((t : ℕ) → w t Stop ≡ 0) → sum_by (λ (p : ProducerView). claimed w p.pass.known.own) producers
       ≡ sum_by (λ (p : ProducerView). taken w p.pass.known.own) producers
       + sum_by (λ (r : List Given). weigh w r) (map (λ (m : One). takes m.own) (back_of crew))

@@ -38,7 +38,7 @@ use Rattle.alog_ring.proofs.SharedStepping.{rises_after}
 abbrev Deed : Type 0
 Deed = Entry Item block_note
 
-abbrev One : Type 0
+abbrev pub One : Type 0
 One = Member Item block_note
 
 abbrev Given : Type 0

@@ -290,7 +290,7 @@ module _ {S : Type 0} (tells : Bool) (files : S → Files) (failures : S → ℕ
         rise = works_rise shared lanes pool.most ends.crew ends.served;
         listed = ends.tickets ∙ works_listed shared lanes pool.most ends.crew ends.served;
         row = subst (λ (f : ℕ). AreInARow f producers) ends.ring.1 (in_a_row producers ends.crew ends.end ends.moment ends.members ends.stops.0
-            (put_nothing shared lanes pool.most ends.crew ends.served) ends.out);
+            (put_nothing shared lanes pool.most ends.crew ends.served));
         posted = posted producers ends.crew ends.end ends.whole ends.members ends.stops.0
             (put_nothing shared lanes pool.most ends.crew ends.served) ends.out;
         written = closed_all 0 lanes (map (λ (h : Worker S). h.sink_seats.items) ends.crew) r.sinks.items r.faults.items
