@@ -8,5 +8,6 @@ mod AllEnded
 mod Disbanding
 mod Balanced
 mod Standing
+mod Posted
 mod Lines
 pub mod SharedCrosses
