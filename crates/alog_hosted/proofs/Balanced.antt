@@ -7,7 +7,7 @@ use Rattle.alog_core.specs.Accounts.{claimed, taken, takes, weigh}
 use Rattle.alog_core.specs.History.{Entry, left_by}
 use Rattle.alog_core.specs.Queue.{start}
 use Rattle.alog_hosted.specs.Ends.{WasWorker}
-use Rattle.alog_hosted.specs.Ends.{AllCameOut, AreAllTotals, handled_by, worker_member}
+use Rattle.alog_hosted.specs.Ends.{AllCameOut, AreAllTotals, PutNoStop, handled_by, worker_member}
 use Rattle.alog_hosted.specs.Workers.{WorkerView}
 use Rattle.alog_lane.specs.Seats as lane
 use Rattle.alog_msg.specs.declared.item.Item.{Item}
@@ -55,12 +55,20 @@ kinds (p ∷ ps) =
     let mine = each_kind (takes p.pass.known.own) in
     omega (arith, one, two, three, mine, kinds ps)
 
+-- what is nothing of each is nothing of all
+pub none_summed : {A : Type 0} (f : A → ℕ) (xs : List A) → AllByRecursion (λ (x : A). f x ≡ 0) xs → sum_by f xs ≡ 0
+none_summed f [] all = refl
+none_summed f (x ∷ xs) all =
+    let one = sum_by-cons f x xs in
+    let mine = all.0 in
+    omega (arith, one, mine, none_summed f xs all.1)
+
+pub put_no_stops : (ps : List ProducerView) → AreAccounts ps → AllByRecursion PutNoStop ps
+put_no_stops [] all = tt
+put_no_stops (p ∷ ps) all = (all.0.no_stop, put_no_stops ps all.1)
+
 no_stops : (ps : List ProducerView) → AreAccounts ps → sum_by (λ (p : ProducerView). puts_of of_stops p) ps ≡ 0
-no_stops [] all = refl
-no_stops (p ∷ ps) all =
-    let one = sum_by-cons (λ (q : ProducerView). puts_of of_stops q) p ps in
-    let mine = all.0.no_stop in
-    omega (arith, one, mine, no_stops ps all.1)
+no_stops ps all = none_summed (λ (p : ProducerView). puts_of of_stops p) ps (put_no_stops ps all)
 
 module _ {S : Type 0} where
   put_nothing : (w : ℕ → Item → ℕ) (ws : List (WorkerView S)) → AllByRecursion WasWorker ws

@@ -8,6 +8,7 @@ mod AllEnded
 mod Disbanding
 mod Balanced
 mod Standing
+mod Posted
 mod Lines
 mod Counted
 pub mod SharedCrosses

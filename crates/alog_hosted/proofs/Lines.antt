@@ -8,6 +8,7 @@ use Rattle.alog_hosted.specs.Lent.{HostedView}
 use Rattle.alog_hosted.specs.Owed.{OwesLast}
 use Rattle.alog_hosted.specs.Workers.{WorkerView}
 use Rattle.alog_hosted.specs.Written.{HasMadeOf, HostedPoolsWriteAll}
+use Rattle.alog_hosted.proofs.Posted.{posted, row}
 use Rattle.alog_lane.specs.Calls.{LaneId}
 use Rattle.alog_lane.specs.Seats.{AreExact, members_of}
 use Rattle.alog_pool.specs.Back.{seat_member}
@@ -102,6 +103,8 @@ module _ {S : Type 0} (tells : Bool) (files : S → Files) (failures : S → ℕ
       let lanes = host.hosted.lanes in
       record {
         ends = ends;
+        posted = posted tells files failures host producers workers r ends;
+        row = row tells files failures host producers workers r ends;
         made = made_by host.hosted workers ends.worked;
         each = each_made host.hosted workers ends.worked;
         written = ended_all 0 lanes (map (λ (w : WorkerView S). w.places) workers) (all_owed workers ++ all_dues shared.loggers ends.left)

@@ -15,7 +15,7 @@ use Rattle.alog_lane.specs.Seats as lane
 use Rattle.alog_lane.specs.Turns.{Turned}
 use Rattle.alog_msg.specs.declared.item.Item.{Item}
 use Rattle.alog_msg.specs.declared.item.Item.TheVariants.{Flush}
-use Rattle.alog_pool.specs.Accounts.{of_work}
+use Rattle.alog_pool.specs.Accounts.{of_stops, of_work}
 use Rattle.alog_pool.specs.Back.{pass_member, seat_member}
 use Rattle.alog_pool.specs.Deeds.{Due, HasDone, IsCounted, IsOwnFlush, all_dues, dues_on, faults_in}
 use Rattle.alog_pool.specs.Producer.{ProducerView}
@@ -75,6 +75,10 @@ pub record AreAllTotals {S : Type 0} (t : Totals) (producers : List ProducerView
   pub asked : t.asked ≡ (t.posted + t.discarded) % 2 ^ 64
   pub balance : t.posted ≡ (t.overrun + t.handled) % 2 ^ 64
 
+-- the producer put in texts and flushes alone
+abbrev pub PutNoStop : ProducerView → Type 0
+PutNoStop p = claimed of_stops p.pass.known.own ≡ 0
+
 -- By whatever weight: what the producers put in, they took out themselves, or the workers did, or it was left. So each text and each flush that
 -- was posted was overrun, or taken by a worker, or handed out by the pool at its end, once.
 abbrev pub AllCameOut : {S : Type 0} → List ProducerView → List (WorkerView S) → List (ℕ × Item) → Type 0
@@ -120,6 +124,7 @@ module _ {S : Type 0} (tells : Bool) (files : S → Files) (failures : S → ℕ
     pub worked : AllByRecursion (HasBeen host.hosted) workers
     pub left : List (ℕ × Item)
     pub left_are : left ≡ map ticket_and_item (left_by (start end.first) end.seen).cells
+    pub no_stops : AllByRecursion PutNoStop producers
     pub out : AllCameOut producers workers left
     pub totals : AreAllTotals r.totals producers workers left
     pub tickets : map (λ (v : Vec ℕ Global). v.items) r.tickets.items ≡ map (λ (w : WorkerView S). w.tickets) workers

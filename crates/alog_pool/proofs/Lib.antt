@@ -21,7 +21,10 @@ pub mod SharedServed
 pub mod SharedClosed
 pub mod SharedTotalled
 pub mod SharedHeld
+pub mod SharedContained
+pub mod SharedPosted
 mod Posted
+pub mod SharedInARow
 mod InARow
 pub mod SharedWorkers
 mod OneWorker

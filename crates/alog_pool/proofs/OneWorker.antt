@@ -20,7 +20,8 @@ use Rattle.alog_pool.specs.Workers.{AreAllWritten}
 use Rattle.alog_pool.specs.declared.worker.Worker.{Worker}
 use Rattle.alog_pool.specs.declared.report.Report.{Report}
 use Rattle.alog_pool.proofs.InARow.{in_a_row}
-use Rattle.alog_pool.proofs.Posted.{posted, work_by, work_weighs}
+use Rattle.alog_pool.proofs.Posted.{posted, work_by}
+use Rattle.alog_pool.proofs.SharedPosted.{work_weighs}
 use Rattle.alog_pool.proofs.SharedWorkers.{closed_all, merged_alone, put_nothing, rows_made, works_rise}
 use Rattle.alog_registry.specs.BlockPort.{block_note}
 use Rattle.alog_ring.specs.Known.{Known}
@@ -73,7 +74,7 @@ module _ {S : Type 0} (tells : Bool) (files : S → Files) (failures : S → ℕ
         rise = rises.0;
         are = subst (λ (items : List (ℕ × Item)). ArePosted producers items) (append-nil (work_by h))
             (posted producers (h ∷ []) end moment.whole members stops idle out);
-        row = subst (λ (f : ℕ). AreInARow f producers) first (in_a_row producers (h ∷ []) end moment members stops idle out);
+        row = subst (λ (f : ℕ). AreInARow f producers) first (in_a_row producers (h ∷ []) end moment members stops idle);
         posted = posted_weighs producers h out;
         written = written_alone 0 lanes r.sinks.items r.faults.items dues
             (closed_all tells files failures 0 lanes (h.sink_seats.items ∷ []) r.sinks.items r.faults.items (dues ∷ []) closed

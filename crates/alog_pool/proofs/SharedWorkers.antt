@@ -25,7 +25,8 @@ use Rattle.alog_pool.specs.declared.worker.Worker.{Worker}
 use Rattle.alog_pool.proofs.SharedBack.{sum_of_map}
 use Rattle.alog_pool.proofs.SharedHeld.{Turn, texts_held}
 use Rattle.alog_pool.proofs.InARow.{in_a_row}
-use Rattle.alog_pool.proofs.Posted.{posted, work_by, work_dues, work_tickets_are}
+use Rattle.alog_pool.proofs.Posted.{posted, work_by}
+use Rattle.alog_pool.proofs.SharedPosted.{work_dues, work_tickets_are}
 use Rattle.alog_pool.proofs.SharedServed.{rising_works}
 use Rattle.alog_pool.specs.declared.shared.Shared.{Shared}
 use Rattle.alog_sink.specs.Files.{Files}
@@ -289,7 +290,7 @@ module _ {S : Type 0} (tells : Bool) (files : S → Files) (failures : S → ℕ
         rise = works_rise shared lanes pool.most ends.crew ends.served;
         listed = ends.tickets ∙ works_listed shared lanes pool.most ends.crew ends.served;
         row = subst (λ (f : ℕ). AreInARow f producers) ends.ring.1 (in_a_row producers ends.crew ends.end ends.moment ends.members ends.stops.0
-            (put_nothing shared lanes pool.most ends.crew ends.served) ends.out);
+            (put_nothing shared lanes pool.most ends.crew ends.served));
         posted = posted producers ends.crew ends.end ends.whole ends.members ends.stops.0
             (put_nothing shared lanes pool.most ends.crew ends.served) ends.out;
         written = closed_all 0 lanes (map (λ (h : Worker S). h.sink_seats.items) ends.crew) r.sinks.items r.faults.items

@@ -4,7 +4,7 @@ use Rattle.std.specs.List.{AllByRecursion, AllPairs, Contains}
 use Rattle.alog_core.specs.Accounts.{claims, issued, takes}
 use Rattle.alog_core.specs.Queue.{last}
 use Rattle.alog_msg.specs.declared.item.Item.{Item}
-use Rattle.alog_msg.specs.declared.item.Item.TheVariants.{Stop, Text}
+use Rattle.alog_msg.specs.declared.item.Item.TheVariants.{Flush, Stop, Text}
 use Rattle.alog_msg.specs.declared.message.Message.{Message}
 use Rattle.alog_policy.specs.SwapPort.{SwapDid}
 use Rattle.alog_policy.specs.declared.policy.Outcome.TheVariants.{Posted}
@@ -20,6 +20,13 @@ use Rattle.alog_registry.specs.declared.logging.LogReply.TheVariants.{Logged}
 -- the tickets of these
 abbrev pub tickets_of : List (ℕ × Item) → List ℕ
 tickets_of items = map (λ (p : ℕ × Item). p.0) items
+
+-- the texts and flushes among these
+abbrev pub works_in : List (ℕ × Item) → List (ℕ × Item)
+works_in [] = []
+works_in ((u, Text m) ∷ ps) = (u, Text m) ∷ works_in ps
+works_in ((u, Flush n) ∷ ps) = (u, Flush n) ∷ works_in ps
+works_in ((u, Stop) ∷ ps) = works_in ps
 
 -- one of these producers put exactly this item in under exactly this ticket: the claim is one of its own events
 abbrev pub IsPutIn : List ProducerView → ℕ × Item → Type 0

@@ -1,7 +1,7 @@
 use Rattle.std.proofs.Common.{◌++◌, ℕ, List, map, sym, ap, subst, ◌∙◌, arith}
 use Rattle.std.specs.List.{AllByRecursion}
 use Rattle.alog_hosted.proofs.AllEnded.{all_ended, gave_many, rows_counted}
-use Rattle.alog_hosted.proofs.Balanced.{made_none, members, out, totals}
+use Rattle.alog_hosted.proofs.Balanced.{made_none, members, out, put_no_stops, totals}
 use Rattle.alog_hosted.proofs.Standing.{all_keep, come_then, has_come, have_been, stands_made}
 use Rattle.alog_hosted.proofs.host.Host.end.Goals as goal
 use Rattle.alog_hosted.specs.Closing.{AreAtLimit, items_of}
@@ -302,6 +302,7 @@ returns g c =
       worked = have_been _ ws come.theirs collects.worked;
       left = left;
       left_are = leaves.cells;
+      no_stops = put_no_stops ps accounts;
       out = out a j l ps ws unused.0 unused.1 gather accounts collects.passes collects.worked leaves.whole left leaves.cells;
       totals = totals a j l ps ws unused.0 unused.1 gather accounts collects.passes collects.worked leaves.whole left leaves.cells
           inside.losses.known c.gather.new.losses.known c.lost_in-lost.result c.collect-taken.result c.hand_out-handled.result c.of.result
