@@ -18,13 +18,14 @@ pub enum Answer {
     WouldBlock = 2,
     /// Discarded and counted: the queue was full.
     Full = 3,
-    /// Discarded and counted: a push or a pop was on its way for too long.
+    /// Discarded and counted: the queue was full, and nothing could be taken out of it.
     Stalled = 4,
-    /// Discarded and counted: others were faster, too often.
+    /// Discarded and counted: others were faster, in each of 64 rounds.
     Busy = 5,
     /// Discarded and counted: no ticket is left.
     Spent = 6,
-    /// The worker found nothing there and nothing on its way, and has flushed what it wrote.
+    /// The worker found nothing there and nothing on its way, and has flushed what it wrote, unless a sink answered that by a fault. Of a take: there is
+    /// nothing now.
     Idle = 7,
     /// The worker found an item on its way, or another pop was faster.
     Soon = 8,
@@ -40,7 +41,7 @@ pub enum Answer {
     InUse = 18,
     /// Refused: out of memory.
     NoMemory = 19,
-    /// Refused: a text, a name or a path is not UTF-8.
+    /// Refused: a text, a name, or the file or the function of a source is not UTF-8.
     NotUtf8 = 20,
     /// Refused: there is no such logger.
     NoLogger = 21,
@@ -52,7 +53,7 @@ pub enum Answer {
     SourceTooLong = 24,
     /// Refused: the pool made as many producers as its open was told, at most 4,096, or as many workers as its configuration says.
     TooMany = 25,
-    /// Refused: not all producers and workers have come back.
+    /// Refused: not all producers and workers have come back, one is coming back at this moment, or there is no memory to take them back.
     PartsOut = 26,
     /// Refused: the document is no configuration.
     BadConfig = 27,

@@ -6,8 +6,8 @@
 //! tests what it is given, and answers why it did nothing. No call waits, starts a thread or sleeps, or calls the system: what is to be done to files is
 //! handed out by `take`.
 //!
-//! Read `answer.rt` with `specs/Answers.antt`; `part.rt`, `handle.rt`, `holding.rt` and `slot.rt` with `specs/Held.antt`; `said.rt`, `hearing.rt`, `logging.rt`; `opening.rt`, `naming.rt` and `places.rt`; and the
-//! calls with `specs/Calls.antt`: `pools.rt`, `producers.rt`, `workers.rt`, `watching.rt`, `files.rt`, `giving.rt`.
+//! Read `answer.rt` with `specs/Answers.antt`; `part.rt`, `handle.rt`, `holding.rt` and `slot.rt` with `specs/Held.antt`; `said.rt`, `hearing.rt`, `logging.rt`; `found_list.rt`, `opening.rt`, `naming.rt` and `places.rt`; and the
+//! calls with `specs/Calls.antt`: `pools.rt`, `producers.rt`, `workers.rt`, `watching.rt`, `files.rt`, `giving.rt`, and `report.rt`.
 #![tactic(auto)]
 
 mod answer;

@@ -29,7 +29,7 @@ pub(crate) struct Opened {
     pub(crate) drains: Vec<Drain>,
 }
 
-/// Why no pool was opened, and where its configuration is the reason in words what that lacks.
+/// Why no pool was opened, and where its configuration or a sink's file is the reason in words what is wrong with that.
 #[derive(Drop)]
 pub(crate) enum Refusal {
     /// There is no memory, for the pool or for the words.

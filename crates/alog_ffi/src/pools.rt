@@ -21,8 +21,8 @@ use alog_pool::ProducerError;
 use std::alloc::Global;
 
 /// Opens a pool of the configuration that a document says, and puts it into an empty handle. `files` holds the files that were found, or nothing; when the
-/// pool is open, it holds what is to be done to the files. Where a configuration is refused, as many bytes as there is room for say why in words, which are
-/// UTF-8 but for the last letter where they are cut.
+/// pool is open, it holds what is to be done to the files. Where a configuration is refused, or the size of a sink's file cannot be told, as many bytes as there is
+/// room for say why in words, which are UTF-8 but for the last letter where they are cut.
 pub fn open(
     alloc: Global,
     pool: &mut AlogHandle,

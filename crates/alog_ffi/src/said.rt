@@ -9,7 +9,7 @@ use alog_msg::{Level, SourceRef};
 pub struct Said<'a> {
     /// The number of the logger, as `find` gives it.
     pub logger: u32,
-    /// The level, from 0 for trace to 5 for critical.
+    /// The level, from 0 for trace to 6 for off.
     pub level: u32,
     /// The time in nanoseconds since 1970, UTC.
     pub time: i64,

@@ -182,7 +182,7 @@ impl<S: Store + Drop> OwnedPool<S> {
     /// which the workers were given back.
     ///
     /// Where some have not been given back, or one is being given back at this moment, the pool is handed back: try again. It takes memory for at most
-    /// one place in two lists, and is handed back where there is none.
+    /// one place in two lists while parts lie at its desk, and is handed back where there is none.
     pub fn end(mut self) -> Result<Report<S>, OwnedPool<S>>
         ensures ends { IfOk result (EndsSo S.tells S.files S.failures self.host) }
         ensures back { IfErr result (λ p. p ≡ self) }

@@ -47,10 +47,10 @@ pub enum StartError {
         /// What `alog check` says of it: the number of the refusal, the place, and what a person has to mend.
         text: String,
     },
-    /// The files of the sinks cannot be written to the folder.
+    /// The files of the sinks cannot be written to the folder, or another alog holds it.
     #[error("{text}")]
     Unwritable {
-        /// Which path it is, and what the system said of it.
+        /// Which path it is, and what is wrong with it.
         text: String,
     },
     /// A store failed when its sink was opened.
@@ -75,7 +75,7 @@ impl From<AllocError> for StartError {
     }
 }
 
-/// Why no work was done, or what it was is not told. The pool was ended, and the buffers of its files are written.
+/// Why no work was done. The pool was ended, and the buffers of its files are written.
 #[derive(Clone, Copy, Debug, PartialEq, Eq, Drop, Error)]
 pub enum RunError {
     #[error("the threads are not from 1 to 4,096")]

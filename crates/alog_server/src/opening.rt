@@ -17,7 +17,7 @@ use std::time::Clock;
 
 /// Starts a server of the configuration that is in this document, with the files of its sinks in this folder, which has to be there
 /// and to take them: that is looked at first. The folder is held until what the server's run answers is dropped, when the last buffers of
-/// its files are written: no other server or load gets it before. A failed call on a file is tried again as often as the key `retry` says, and
+/// its files are written: no other server, load or pipe gets it before. A failed call on a file is tried again as often as the key `retry` says, and
 /// not at all where it says nothing.
 pub fn start<R: Files + Folders + Threads + Wait + Clock + Clone + Drop + Send + 'static>(
     rt: &R,

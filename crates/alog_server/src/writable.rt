@@ -7,7 +7,7 @@ use std::io::{self, ErrorKind};
 use std::path::Path;
 use std::rt::Files;
 
-/// A file that is made and removed in a folder to see whether one can be. No sink has a file of such a name.
+/// A file that is made and removed in a folder to see whether one can be. No store takes a file of such a name.
 const PROBE: &str = ".probe.replaced";
 
 /// What came of asking for a folder.
@@ -22,7 +22,7 @@ pub enum Hold<L> {
 /// Looks whether the files of a configuration can be written to a folder, and holds it for them, so that no two write there at once.
 ///
 /// It is refused where the folder is not there, is none, or takes no new file; where a file that is there already cannot be opened, as
-/// a folder of its name; and where another alog holds it, or another server of this process. To see whether the folder takes files,
+/// a folder of its name; where a sink's file would be the folder's lock, or that cannot be made; and where another alog holds it, or another server of this process. To see whether the folder takes files,
 /// one is made there and removed. The files of daily sinks have names by dates, so the folder alone is looked at for them. The tests
 /// `what_cannot_be_written_is_refused_at_the_start` and `a_folder_is_held_by_one_server` of `test_server` show it.
 pub fn hold_folder<R: Files + Folders>(
