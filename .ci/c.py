@@ -28,7 +28,7 @@ THREADS = ["-O1", "-g", "-fsanitize=thread"]
 COMPILERS = {"gcc": "g++", "clang": "clang++"}
 WRAPPED = "-Wl,--wrap=malloc,--wrap=realloc,--wrap=free"
 TAKEN = "-Wl,--wrap=malloc,--wrap=realloc,--wrap=alog_c_shutdown"
-CALLS = "-Wl,--wrap=write,--wrap=openat,--wrap=renameat,--wrap=unlinkat,--wrap=fdatasync,--wrap=fsync,--wrap=close,--wrap=alog_c_take"
+CALLS = "-Wl,--wrap=write,--wrap=openat,--wrap=renameat,--wrap=unlinkat,--wrap=fdatasync,--wrap=fsync,--wrap=close,--wrap=fstatat,--wrap=fdopendir,--wrap=readdir,--wrap=alog_c_take"
 MOVED = "-Wl,--wrap=renameat,--wrap=write"
 # where spdlog and fmt are, whose programs are left out where they are not there, and what their libraries want, which are compiled faster than
 # their headers

@@ -1,5 +1,5 @@
 /* Each call of a host on its files fails in turn, is interrupted, or takes a byte or nothing: calls FOLDER. It is linked with --wrap for write, openat,
-   renameat, unlinkat, fdatasync, fsync and close, and for the library's take. A call that fails is counted once and the rest goes on; the others
+   renameat, unlinkat, fdatasync, fsync, close, fstatat, fdopendir and readdir, and for the library's take. A call that fails is counted once and the rest goes on; the others
    lose nothing. Each open of a start fails in turn, or is interrupted. What was written is brought to the disk before its file is closed, and so are
    the folder's names. An end behind which the library does not say that all was taken is a failure. And while nothing is taken, areas run out, which
    the host tells at once. */
@@ -33,6 +33,9 @@ static int folder_syncs;
 /* whether the library is to say that nothing is there where all was taken, and how often it was to say so; and whether the next sync of the folder
    fails */
 static int is_endless, ends, is_refused;
+/* which look at the folder fails: at one of its files, at its list, or at what is next in that; and how often one failed */
+static enum look { NONE, ONE, LIST, NEXT } look;
+static int looks;
 /* whether a write took nothing */
 static int took_nothing;
 /* whether takes find nothing, as if each came too late */
@@ -64,6 +67,12 @@ int __wrap_unlinkat(int folder, const char *path, int flags);
 int __wrap_fdatasync(int descriptor);
 int __wrap_fsync(int descriptor);
 int __wrap_close(int descriptor);
+int __real_fstatat(int folder, const char *path, struct stat *found, int flags);
+DIR *__real_fdopendir(int descriptor);
+struct dirent *__real_readdir(DIR *list);
+int __wrap_fstatat(int folder, const char *path, struct stat *found, int flags);
+DIR *__wrap_fdopendir(int descriptor);
+struct dirent *__wrap_readdir(DIR *list);
 uint32_t __real_alog_c_take(alog_files *files, char *to, size_t room, size_t *length);
 uint32_t __wrap_alog_c_take(alog_files *files, char *to, size_t room, size_t *length);
 
@@ -148,6 +157,33 @@ int __wrap_close(int descriptor)
         is_dirty[descriptor] = 0;
     }
     return is_file && is_it(0, 0) ? refuse() : closed;
+}
+
+static int misses(enum look at)
+{
+    looks += look == at;
+    return look == at;
+}
+
+int __wrap_fstatat(int folder, const char *path, struct stat *found, int flags)
+{
+    return misses(ONE) ? refuse() : __real_fstatat(folder, path, found, flags);
+}
+
+DIR *__wrap_fdopendir(int descriptor)
+{
+    if (!misses(LIST))
+        return __real_fdopendir(descriptor);
+    refuse();
+    return NULL;
+}
+
+struct dirent *__wrap_readdir(DIR *list)
+{
+    if (!misses(NEXT))
+        return __real_readdir(list);
+    refuse();
+    return NULL;
 }
 
 static size_t length_of(const char *folder, const char *name)
@@ -317,6 +353,39 @@ static int begin(const char *folder, int number)
     return calls >= number;
 }
 
+static int descriptors(void)
+{
+    int count = 0;
+    for (int number = 0; number < DESCRIPTORS; number++)
+        count += fcntl(number, F_GETFD) >= 0;
+    return count;
+}
+
+/* A start whose look at the folder fails is refused in these words, and nothing is left of it. (Where the C library has no call of this name, none
+   fails.) */
+static void look_fails(const char *folder, enum look at, const char *before, const char *behind)
+{
+    alog_report report;
+    alog_answer answer;
+    char words[600];
+    const int had = descriptors();
+    way = FAILS;
+    looks = 0;
+    look = at;
+    answer = alog_start(&host, config, sizeof config - 1, folder, 1);
+    look = NONE;
+    EXPECT(answer, looks > 0 ? ALOG_NO_STORE : ALOG_DONE);
+    if (answer == ALOG_DONE) {
+        EXPECT(alog_stop(&host, &report), ALOG_DONE);
+        return;
+    }
+    EXPECT(strncmp(host.told, before, strlen(before)), 0);
+    snprintf(words, sizeof words, "%s%s%s", folder, behind, strerror(EIO));
+    EXPECT_TEXT(strstr(host.told, folder) == NULL ? host.told : strstr(host.told, folder), words);
+    EXPECT(host.pool.kind + host.files.kind + host.is_open, 0);
+    EXPECT(descriptors(), had);
+}
+
 int main(int argc, char **argv)
 {
     static const char *const ways[] = {"fail", "are interrupted", "take a byte", "take nothing"};
@@ -343,5 +412,8 @@ int main(int argc, char **argv)
         printf("calls: %d calls of a start %s in turn\n", number - 1, ways[at]);
         EXPECT(number > 8, 1);
     }
+    look_fails(argv[1], ONE, "the file ", " cannot be looked at: ");
+    look_fails(argv[1], LIST, "the files of ", " cannot be listed: ");
+    look_fails(argv[1], NEXT, "the files of ", " cannot be listed: ");
     return trial_end();
 }
