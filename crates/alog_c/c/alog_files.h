@@ -423,22 +423,17 @@ static inline void alog_host_do(alog_host *host, size_t length)
     size_t at = 0;
     int found;
     while ((found = alog_next_record(host->area, length, &at, &record)) > 0) {
-        const int is_append = record.deed == ALOG_APPEND;
-        if (is_append && run.name_length == record.name_length && memcmp(run.name, record.name, record.name_length) == 0) {
-            memmove(end, record.rest, record.rest_length);
-            end += record.rest_length;
-            run.rest_length += record.rest_length;
-            continue;
-        }
         if (run.name_length > 0)
             alog_host_append(host, &run);
         run.name_length = 0;
-        if (is_append) {
-            run = record;
-            end = host->area + at;
-        } else {
+        if (record.deed != ALOG_APPEND) {
             alog_host_change(host, &record);
+            continue;
         }
+        run = record;
+        for (end = host->area + at; alog_next_append(host->area, length, &at, &record); end += record.rest_length)
+            memmove(end, record.rest, record.rest_length);
+        run.rest_length = ALOG_CAST(size_t, end - run.rest);
     }
     if (run.name_length > 0)
         alog_host_append(host, &run);

@@ -94,6 +94,26 @@ static inline int alog_next_record(const char *bytes, size_t length, size_t *at,
     return 1;
 }
 
+/* Reads the record at `*at` where it appends to the file of the one that was read last, which is in `*record`, and moves `*at` behind it. Answers 0,
+   and leaves all as it was, where it does something else: then alog_next_record says what. Most records are such: their name was looked at. */
+static inline int alog_next_append(const char *bytes, size_t length, size_t *at, alog_record *record)
+{
+    const char *header = bytes + *at;
+    const size_t left = length - *at, front = ALOG_RECORD_HEADER + record->name_length;
+    size_t rest_length;
+    if (left < front || memcmp(header + ALOG_RECORD_HEADER, record->name, record->name_length) != 0)
+        return 0;
+    if (alog_number_at(header) != ALOG_APPEND || alog_number_at(header + 4) != record->name_length || alog_number_at(header + 12) != 0)
+        return 0;
+    rest_length = alog_number_at(header + 8);
+    if (rest_length > left - front)
+        return 0;
+    record->rest = header + front;
+    record->rest_length = rest_length;
+    *at += front + rest_length;
+    return 1;
+}
+
 #ifdef __cplusplus
 }
 #endif

@@ -1,6 +1,6 @@
 //! How what was said is heard.
-ghost use Rattle.std.specs.Prelude.{◌≡◌, ◌<◌, length, IfOk, IfErr, IfSome, None};
-ghost use Rattle.std.specs.Str.{IsUtf8};
+ghost use Rattle.std.specs.Prelude.{◌≡◌, ◌<◌, length, IfOk, IfErr, IfSome, IsTrue, None};
+ghost use Rattle.std.specs.Str.{IsAscii, IsUtf8};
 ghost use Rattle.alog_ffi.specs.Said.{IsFiltered, IsHeard, IsLevelOf, IsUnheard};
 ghost use Rattle.alog_ffi.specs.declared.answer.Answer.TheVariants as answer;
 
@@ -68,13 +68,27 @@ pub(crate) fn hear<'a>(loggers: &Loggers, said: Said<'a>) -> Result<Heard<'a>, A
     })
 }
 
-/// These bytes as a text.
+/// These bytes as a text. Most texts are ASCII, and to see that all of one is takes a quarter of the instructions of the full test.
 fn text_of(bytes: &[u8]) -> Result<&str, Answer>
     ensures text { IfOk result (λ t. t.now ≡ bytes.now) }
     ensures refused { IfErr result (λ a. (a ≡ answer.NotUtf8) × ¬ IsUtf8 bytes.now) }
 {
+    if is_ascii(bytes) {
+        return Ok(unsafe { str::from_utf8_unchecked(bytes) });
+    }
     match str::from_utf8(bytes) {
         Ok(text) => Ok(text),
         Err(_) => Err(Answer::NotUtf8),
     }
+}
+
+/// Whether all bytes are ASCII: whether the greatest is, which a processor finds sixteen bytes at a time.
+fn is_ascii(bytes: &[u8]) -> bool
+    ensures { IsTrue result → IsAscii bytes.now }
+{
+    let mut greatest = 0_u8;
+    for byte in bytes {
+        greatest = greatest.max(*byte);
+    }
+    greatest < 0x80
 }
