@@ -26,6 +26,8 @@ from rows import Row, bytes_of, rows
 
 PROGRAM = "crates/alog/out/alog"
 REFUSED, STORE_FAILED = b"alog: refused 1\nalog: out of memory\n", b"alog: refused 22\nalog: a store failed\n"
+# what is said of a load or a pipe, which starts threads besides
+UNSTARTED = b"alog: refused 1\nalog: out of memory, or a thread could not be started\n"
 # what is said of a sink that could not be opened, since there was no memory to ask its store
 UNOPENED = re.compile(STORE_FAILED + rb"alog: sink \d+, [^\n]+: the size of its file cannot be read: out of memory\n")
 # a turn of a sink, and how its line begins where it is a fault
@@ -92,7 +94,7 @@ def run_counted(room, words, given, kind, number):
 
 def outcome(ran, row):
     """Returns in words what came of a run, or None where it is none of what may come."""
-    if (ran.returncode, ran.stderr) == (4, REFUSED) and row.printed.startswith(ran.stdout):
+    if ran.returncode == 4 and ran.stderr in (REFUSED, UNSTARTED) and row.printed.startswith(ran.stdout):
         return "no memory"
     if ran.returncode != row.status:
         return None
@@ -123,7 +125,7 @@ def load_outcome(ran, row):
     if (ran.returncode, ran.stdout) == (0, row.printed) and RETRIED.fullmatch(ran.stderr):
         return "tried again"
     found = ran.returncode, ran.stdout, ran.stderr
-    return {(4, b"", REFUSED): "no memory", (0, row.printed, b""): "nothing"}.get(found)
+    return {(4, b"", REFUSED): "no memory", (4, b"", UNSTARTED): "no memory", (0, row.printed, b""): "nothing"}.get(found)
 
 
 def pass_outcome(ran, row):

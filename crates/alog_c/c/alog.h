@@ -445,9 +445,9 @@ static inline const char *alog_says(enum alog_answer answer)
     case ALOG_NO_MEMORY: return "There is no memory.";
     case ALOG_NOT_UTF8: return "A text or a name is not UTF-8.";
     case ALOG_NO_LOGGER: return "There is no such logger.";
-    case ALOG_NO_LEVEL: return "There is no such level.";
-    case ALOG_TEXT_TOO_LONG: return "The text is longer than the configuration allows.";
-    case ALOG_SOURCE_TOO_LONG: return "The source's file or function is too long.";
+    case ALOG_NO_LEVEL: return "There is no such level: levels are 0 to 6.";
+    case ALOG_TEXT_TOO_LONG: return "The text is longer than the key `text` of the configuration allows, which may be 64 to 8192 bytes.";
+    case ALOG_SOURCE_TOO_LONG: return "The source's file has more than 256 bytes, or its function more than 128.";
     case ALOG_TOO_MANY: return "The pool may make no more of these.";
     case ALOG_PARTS_OUT: return "Not all producers and workers were given back.";
     case ALOG_BAD_CONFIG: return "The document is no configuration.";

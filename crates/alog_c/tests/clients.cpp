@@ -130,7 +130,7 @@ void refusals(const std::string &folder) {
     const alog::logger net(host, "net");
     EXPECT(alog::is_refusal(ALOG_NO_THREAD), 1);
     EXPECT(alog::is_refusal(ALOG_ENDED), 0);
-    EXPECT_TEXT(thrown([&host] { host->set_level("net", static_cast<alog_level>(7)); }).c_str(), "alog: There is no such level. net");
+    EXPECT_TEXT(thrown([&host] { host->set_level("net", static_cast<alog_level>(7)); }).c_str(), "alog: There is no such level: levels are 0 to 6. net");
     EXPECT_TEXT(thrown([&host] { host->find("nobody"); }).c_str(), "alog: There is no such logger. nobody");
     EXPECT(net.info("{}", large()), ALOG_NO_MEMORY);
     std::remove(path_of(folder.c_str(), "log.txt"));

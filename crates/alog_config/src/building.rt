@@ -25,7 +25,7 @@ pub enum BuildError {
     #[error("out of memory")]
     OutOfMemory,
     /// The store of a sink that rotates its file failed, as it was asked for the file's size.
-    #[error("a store failed")]
+    #[error("sink {sink}: the size of its file cannot be read")]
     Store {
         /// The sink's number in the configuration, from 0.
         sink: usize,

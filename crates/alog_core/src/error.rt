@@ -32,7 +32,7 @@ impl From<AllocError> for WorldError {
 #[derive(Clone, Copy, Debug, PartialEq, Eq, Drop, Error)]
 pub enum BeginError {
     /// Actors are 0 to 63.
-    #[error("there is no such actor")]
+    #[error("the actor is not from 0 to 63")]
     NoActor,
     /// The actor has a call that has not ended.
     #[error("the actor is in a call")]
@@ -55,7 +55,7 @@ impl BeginError {
 #[derive(Clone, Copy, Debug, PartialEq, Eq, Drop, Error)]
 pub enum StepError {
     /// Actors are 0 to 63.
-    #[error("there is no such actor")]
+    #[error("the actor is not from 0 to 63")]
     NoActor,
     /// The actor is in no call.
     #[error("the actor is in no call")]

@@ -19,7 +19,7 @@ pub enum LoadError {
         reason: Option<io::Error>,
     },
     /// There was no memory, or a thread could not be started.
-    #[error("out of memory")]
+    #[error("out of memory, or a thread could not be started")]
     OutOfMemory,
 }
 

@@ -15,7 +15,7 @@ use thiserror::Error;
 #[derive(Clone, Copy, Debug, PartialEq, Eq, Error)]
 pub enum WriteError {
     /// The text has more bytes than the block's text limit.
-    #[error("the text is longer than the text limit")]
+    #[error("the text is longer than the text limit, which may be 64 to 8,192 bytes")]
     TextTooLong,
     /// The source's file has more than 256 bytes, or its function more than 128.
     #[error("the file has more than 256 bytes or the function more than 128")]

@@ -15,14 +15,14 @@ pub enum StartError {
     #[error("the first ticket is not below 2^62")]
     BadFirst,
     /// There was no memory, or a thread could not be started. Workers that were started are told to stop, and end.
-    #[error("out of memory")]
+    #[error("out of memory, or a thread could not be started")]
     OutOfMemory,
 }
 
 /// Why no producer was made. Nothing changed.
 #[derive(Clone, Copy, Debug, PartialEq, Eq, Drop, Error)]
 pub enum ProducerError {
-    #[error("the pool made 4,096 producers")]
+    #[error("the pool made as many producers as it may, at most 4,096")]
     TooMany,
     #[error("out of memory")]
     OutOfMemory,

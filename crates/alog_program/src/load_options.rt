@@ -3,7 +3,7 @@ ghost use Rattle.std.specs.Prelude.{◌≡◌, IfOk, IfErr};
 ghost use Rattle.alog_program.specs.LoadOptions.{AsksForLoad, IsCountOf, IsFirstUnread, IsReadable, RefusesCount, name_of, standard_of};
 ghost use Rattle.alog_program.specs.Options.{value_of};
 
-use crate::options::{Allowed, text, unsigned_number};
+use crate::options::{text, unsigned_number};
 use crate::request::LoadRequest;
 use clap::ArgMatches;
 use thiserror::Error;
@@ -17,13 +17,11 @@ pub enum LoadOption {
 
 /// An option is refused: its value is no number of 64 bits.
 #[derive(Clone, Copy, Debug, Error)]
-#[error("--{name}={value:?} is refused: allowed is {allowed}", name = .option.name(), allowed = ANY_COUNT)]
+#[error("--{name}={value:?} is refused: allowed is 1 to 64 for producers and 0 to 1000000 for messages, without a sign", name = .option.name())]
 pub struct LoadValueError<'a> {
     pub option: LoadOption,
     pub value: &'a str,
 }
-
-const ANY_COUNT: Allowed = Allowed::Unsigned { most: u64::MAX };
 
 impl LoadOption {
     /// The name, without its two dashes.

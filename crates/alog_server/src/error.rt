@@ -10,10 +10,10 @@ pub enum LogError {
     #[error("there is no logger of this name")]
     NoLogger,
     /// The clock cannot be read, or shows a time after 2262.
-    #[error("the clock cannot be read")]
+    #[error("the clock cannot be read, or shows a time after 2262")]
     NoTime,
     /// The text has more bytes than the configuration allows.
-    #[error("the text is longer than the text limit")]
+    #[error("the text is longer than the key `text` of the configuration allows, which may be 64 to 8,192 bytes")]
     TextTooLong,
     /// The source's file has more than 256 bytes, or its function more than 128.
     #[error("the file has more than 256 bytes or the function more than 128")]
@@ -60,7 +60,7 @@ pub enum StartError {
         text: String,
     },
     /// There was no memory, or a thread could not be started.
-    #[error("out of memory")]
+    #[error("out of memory, or a thread could not be started")]
     OutOfMemory,
 }
 

@@ -31,7 +31,7 @@ pub enum OpenError {
     #[error("a limit of the sink is out of its bounds")]
     BadLimit,
     /// The name is empty, has more than 64 bytes, a `/` or a zero byte, or is `.` or `..`.
-    #[error("no file can have this name")]
+    #[error("no file can have this name: allowed are 1 to 64 bytes, not . or .., without a slash or a zero byte")]
     BadName,
     /// A growth was refused.
     #[error("out of memory")]

@@ -10,13 +10,13 @@ use thiserror::Error;
 #[derive(Clone, Copy, Debug, PartialEq, Eq, Drop, Error)]
 pub enum BeginError {
     /// Actors are 0 to 63.
-    #[error("there is no such actor")]
+    #[error("the actor is not from 0 to 63")]
     NoActor,
     /// The actor has a call that has not ended.
     #[error("the actor is in a call")]
     InCall,
     /// The text has more bytes than the text limit.
-    #[error("the text is longer than the text limit")]
+    #[error("the text is longer than the text limit, which may be 64 to 8,192 bytes")]
     TextTooLong,
     /// There was no memory for what the deed needs.
     #[error("out of memory")]

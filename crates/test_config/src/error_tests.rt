@@ -7,6 +7,8 @@ use std::process::Abort;
 
 const SIZE: &str = "the number of places is no power of two from 2 to 65,536";
 
+const TEXT: &str = "the text is longer than the text limit, which may be 64 to 8,192 bytes";
+
 const BROKEN: &str = "the sink is broken, since its store failed";
 
 const MEMORY: &str = "out of memory";
@@ -39,12 +41,9 @@ fn no_turn(rt: &impl Abort, alloc: Global) {
 // A deed that did not begin.
 fn no_deed(rt: &impl Abort, alloc: Global) {
     for (error, wanted) in [
-        (BeginError::NoActor, "there is no such actor"),
+        (BeginError::NoActor, "the actor is not from 0 to 63"),
         (BeginError::InCall, "the actor is in a call"),
-        (
-            BeginError::TextTooLong,
-            "the text is longer than the text limit",
-        ),
+        (BeginError::TextTooLong, TEXT),
         (BeginError::OutOfMemory, MEMORY),
     ] {
         says(rt, format!(in alloc; "{error}"), wanted);

@@ -4,7 +4,7 @@ use alog_registry::{AddError, BacktraceError, DumpError};
 use std::alloc::{AllocError, Global};
 use std::process::Abort;
 
-const TEXT: &str = "the text is longer than the text limit";
+const TEXT: &str = "the text is longer than the text limit, which may be 64 to 8,192 bytes";
 
 const FIELD: &str = "the file has more than 256 bytes or the function more than 128";
 

@@ -8,6 +8,8 @@ use std::process::Abort;
 
 const WORKERS: &str = "the pool made as many workers as its setup says";
 
+const TEXT: &str = "the text is longer than the text limit, which may be 64 to 8,192 bytes";
+
 const MEMORY: &str = "out of memory";
 
 /// This is said.
@@ -33,7 +35,7 @@ fn no_log(rt: &impl Abort, alloc: Global) {
     let text = LogError::Refused(MessageError::TextTooLong);
     for (error, wanted) in [
         (LogError::NoLogger, "there is no such logger"),
-        (text, "the text is longer than the text limit"),
+        (text, TEXT),
     ] {
         says(rt, format!(in alloc; "{error}"), wanted);
     }

@@ -11,7 +11,16 @@ const LOAD: &str = "the producers are not from 1 to 64, or the messages are over
 
 const FIELD: &str = "the file has more than 256 bytes or the function more than 128";
 
+const TIME: &str = "the clock cannot be read, or shows a time after 2262";
+
+const TEXT: &str =
+    "the text is longer than the key `text` of the configuration allows, which may be 64 to 8,192 bytes";
+
+const PRODUCERS: &str = "the pool made as many producers as it may, at most 4,096";
+
 const MEMORY: &str = "out of memory";
+
+const THREAD: &str = "out of memory, or a thread could not be started";
 
 /// This is said.
 fn says(rt: &impl Abort, shown: Result<String, AllocError>, wanted: &str) {
@@ -30,7 +39,7 @@ fn no_pool(rt: &impl Abort, alloc: Global) {
         ),
         (StartError::BadSize, SIZE),
         (StartError::BadFirst, "the first ticket is not below 2^62"),
-        (StartError::OutOfMemory, MEMORY),
+        (StartError::OutOfMemory, THREAD),
     ] {
         says(rt, format!(in alloc; "{error}"), wanted);
     }
@@ -39,7 +48,7 @@ fn no_pool(rt: &impl Abort, alloc: Global) {
 // A producer that was not made.
 fn no_producer(rt: &impl Abort, alloc: Global) {
     for (error, wanted) in [
-        (ProducerError::TooMany, "the pool made 4,096 producers"),
+        (ProducerError::TooMany, PRODUCERS),
         (ProducerError::OutOfMemory, MEMORY),
     ] {
         says(rt, format!(in alloc; "{error}"), wanted);
@@ -55,7 +64,7 @@ fn no_load(rt: &impl Abort, alloc: Global) {
     for (error, wanted) in [
         (LoadError::BadValue, LOAD),
         (store, "a store failed"),
-        (LoadError::OutOfMemory, MEMORY),
+        (LoadError::OutOfMemory, THREAD),
     ] {
         says(rt, format!(in alloc; "{error}"), wanted);
     }
@@ -65,11 +74,8 @@ fn no_load(rt: &impl Abort, alloc: Global) {
 fn no_log(rt: &impl Abort, alloc: Global) {
     for (error, wanted) in [
         (LogError::NoLogger, "there is no logger of this name"),
-        (LogError::NoTime, "the clock cannot be read"),
-        (
-            LogError::TextTooLong,
-            "the text is longer than the text limit",
-        ),
+        (LogError::NoTime, TIME),
+        (LogError::TextTooLong, TEXT),
         (LogError::FieldTooLong, FIELD),
         (LogError::OutOfMemory, MEMORY),
     ] {

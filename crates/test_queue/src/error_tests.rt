@@ -31,13 +31,13 @@ fn no_world(rt: &impl Abort, alloc: Global) {
 // A call of it that did not begin, and a step that was not made.
 fn no_call(rt: &impl Abort, alloc: Global) {
     for (error, wanted) in [
-        (BeginError::NoActor, "there is no such actor"),
+        (BeginError::NoActor, "the actor is not from 0 to 63"),
         (BeginError::InCall, "the actor is in a call"),
     ] {
         says(rt, format!(in alloc; "{error}"), wanted);
     }
     for (error, wanted) in [
-        (StepError::NoActor, "there is no such actor"),
+        (StepError::NoActor, "the actor is not from 0 to 63"),
         (StepError::NotInCall, "the actor is in no call"),
     ] {
         says(rt, format!(in alloc; "{error}"), wanted);

@@ -403,7 +403,8 @@ fn no_fan_says(alloc: Global, wanted: &str) -> Result<bool, Fail> {
 
 #[test]
 fn refusals_are_errors(rt: HostRuntime) -> Result<(), Fail> {
-    let wanted = "the sink was not opened: no file can have this name";
+    let wanted =
+        "the sink was not opened: no file can have this name: allowed are 1 to 64 bytes, not . or .., without a slash or a zero byte";
     assert!(rt; unopened_says(rt.alloc(), wanted)?);
     let wanted = "the fan was not made: a limit of the sink is out of its bounds";
     assert!(rt; no_fan_says(rt.alloc(), wanted)?);
