@@ -42,8 +42,11 @@ use alog_sink::{Sink, Store};
 
 impl<S: Store + Drop> Host<S> {
     /// Ends the pool, when its producers and workers have come back: it makes the turns that workers owe, hands out what is left in the queue by
-    /// itself, flushes each sink once more, and answers what became of all messages. It takes no memory and waits for nobody: with all parts here
-    /// no lock can be held. It writes as many lines as were left, which are none where workers ended what was logged. A worker's tickets are told in the order in which the workers are handed in; of what was left there are none.
+    /// itself, flushes each sink once more, and answers what became of all messages. It takes no memory of its own and waits for no other thread:
+    /// with all parts here no lock can be held. Where the workers ended all that was posted, it writes no line.
+    ///
+    /// The report has the tickets of each worker in the order in which the workers are handed in; it has none of what was left, which counts as
+    /// handled.
     ///
     /// Where not just as many producers and as many workers come back as were made, nothing is done, and all comes back. More can not come back: each
     /// brings a part of the queue, and there are no more parts than all.

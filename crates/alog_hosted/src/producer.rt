@@ -103,8 +103,10 @@ impl HostedProducer {
 
     /// Logs a message to the logger of this number, as `Loggers::log_now` does, and never waits; but a logger whose policy is to block makes one
     /// round of a push, and where there is no room, or another push was faster, the answer is that it would block: nothing was done then, and
-    /// nothing is counted. The copy for the backtrace of a logger that has one takes memory, and nothing else does; `dump_once` posts what was
-    /// kept.
+    /// nothing is counted.
+    ///
+    /// Memory is taken for the backtrace's copy alone, kept or not, where the text has more than 70 bytes or there is a source; `dump_once` posts
+    /// what was kept. A refused message changes nothing.
     pub fn log_once<S: Store>(
         &mut self,
         hosted: &Hosted<S>,
@@ -156,9 +158,13 @@ impl HostedProducer {
         let mut port = port_of!(self, hosted);
         hosted.shared.loggers.flush(&mut port, number)
     }
+
     /// Posts what the backtrace of the logger of this number kept, as `Loggers::dump_shared_once` does, and never waits: it tries the lock of the
-    /// backtrace once, and where another thread has it, nothing is done, and the answer says so. Memory is taken for the markers and the outcomes
-    /// alone. The tests `dumps_between_markers` and `dumps_nothing` show it.
+    /// backtrace once, and where another thread has it, nothing changes, and the answer says so.
+    ///
+    /// Memory is taken for the outcomes alone, before the lock is tried: for two more than the backtrace may keep, also where it kept nothing.
+    /// Where there is none, nothing changes. The tests `dumps_between_markers` and `dumps_nothing` show what is posted; the test
+    /// `a_dump_that_is_held` of `test_loggers` shows of `Loggers::dump_shared_once` what comes where another thread has the lock.
     pub fn dump_once<S: Store>(
         &mut self,
         hosted: &Hosted<S>,

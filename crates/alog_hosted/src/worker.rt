@@ -106,8 +106,9 @@ impl<S: Store> HostedWorker<S> {
         self.number
     }
 
-    /// How many turns at sinks this worker made so far that were answered by a fault, at most 2^64 - 1. A sink that is broken answers each turn by one,
-    /// so that it grows from then on with each line that is missing.
+    /// How many turns at sinks this worker made so far that were answered by a fault, at most 2^64 - 1. A sink that is broken answers each flush by one,
+    /// and each text that its level lets through; a fan answers one for all of its members. So above 0 a sink, or a member of one, is broken; how
+    /// many lines are missing the number does not say. The test `faults_are_told_so_far` shows it.
     pub fn faults(&self) -> u64
         ensures turns { result ≡ faults_of self.now }
         ensures counted { result ≡ capped_sum_by (λ p. p.faults) self.now.places }
@@ -115,8 +116,8 @@ impl<S: Store> HostedWorker<S> {
         faults_counted(&self.places)
     }
 
-    /// Takes items out of the queue and writes their lines, at most so many items, and answers how many it ended and why it stopped. It never
-    /// waits and takes no memory.
+    /// Takes items out of the queue and writes their lines, until it ended so many items, or has to stop before, and answers how many it ended and
+    /// why it stopped. It waits for no other thread, and takes no memory of its own: what a call of a store does is the store's matter.
     ///
     /// Where another worker has the lock of a sink, the item is half done and stays with this worker; its next call goes on with it.
     pub fn work_some(&mut self, hosted: &Hosted<S>, most: usize) -> Work

@@ -7,7 +7,7 @@ use std::str;
 /// A text that lies in the value itself, behind its length. Contracts see it as the list of its bytes.
 ///
 /// It is one byte wider than the longest of these texts, and may lie at any address. So a text lies in 72 bytes, with the mark of
-/// where it lies, and a block in 128. No byte of these is left over.
+/// where it lies and no byte left over, and a block in 128.
 #[derive(Drop)]
 pub(crate) struct ShortText {
     len: u8,

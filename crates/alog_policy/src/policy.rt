@@ -5,7 +5,7 @@ ghost use Rattle.alog_policy.specs.Progress.{without_waiting};
 /// What a post does where the queue is full. The test `overruns_the_oldest` and `sessions/posts.session` show it.
 #[derive(Clone, Copy, Debug, PartialEq, Eq)]
 pub enum Policy {
-    /// It begins again until there is room.
+    /// It begins again until there is room. A post that never waits reads it as `DiscardNew`.
     Block,
     /// It takes the oldest item out, which is lost, and begins again.
     OverrunOldest,
@@ -28,7 +28,7 @@ impl Policy {
 /// Why a post ended without a ticket. `sessions/posts.session` shows each.
 #[derive(Clone, Copy, Debug, PartialEq, Eq)]
 pub enum Why {
-    /// The queue is full, and the policy is to discard the new.
+    /// The queue was full, and the policy is to discard the new, or to block, where the post never waits.
     Full,
     /// The queue was full, and then there was nothing to take out: its front ticket was claimed and not written yet, or others
     /// had grabbed all of its tickets.

@@ -22,15 +22,18 @@ const YIELDS: u32 = 8;
 /// Then it sleeps so many microseconds. A sleep takes some 55 longer than it is asked to.
 const FIRST_NAP: u64 = 50;
 
-/// Each sleep is twice as long as the one before, up to so many microseconds for each worker of the pool, so that an idle pool
-/// wakes at most two hundred and fifty times a second, whatever its number of workers is.
+/// Each sleep is twice as long as the one before, up to so many microseconds for each worker of the pool, so that a pool which
+/// stays idle comes to wake at most two hundred and fifty times a second, whatever its number of workers is.
 const ITEM_NAP_MAX: u64 = 4_000;
 
 /// How a thread that takes items waits: what a worker of a pool does after each pop that took nothing, from one item to the next.
 ///
 /// Where the queue is idle it spins, then yields, and then sleeps, each time twice as long, from 50 microseconds up to four
 /// milliseconds for each worker. Where it is empty, so that an item is on its way, it looks again at once, a hundred times, and
-/// then yields before each look; it never sleeps then. The test `rests_where_the_queue_is_idle_alone` of `test_pool` shows it.
+/// then yields before each look. Where another pop was faster it spins. It sleeps in the first case alone.
+///
+/// No contract says anything of this. The tests `rests_where_the_queue_is_idle_alone` and `rests_longer_beside_others` of
+/// `test_pool` show how often it sleeps, and how long.
 #[derive(Drop)]
 pub struct ItemWait {
     /// Looks since the queue was idle last, each of which found an item on its way, as far as they are counted.
@@ -55,8 +58,8 @@ impl ItemWait {
         }
     }
 
-    /// Lets so much time pass as is right after a pop that took nothing: longer each time where nothing is there or another pop
-    /// was faster, and hardly any where an item is on its way.
+    /// Lets some time pass after a pop that took nothing, by why it did: more and more, up to a bound, where nothing is there or
+    /// another pop was faster, and hardly any where an item is on its way.
     pub fn after(&mut self, clock: &impl Clock, error: PopError) {
         match error {
             PopError::Idle { next: _ } => self.rest(clock),

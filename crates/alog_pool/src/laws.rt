@@ -29,17 +29,18 @@ pub fn posted_logs_put_their_text_in()
 {}
 
 /// Where a pool has ended, whatever the number of its workers: each handled some of the texts and flushes that were posted and not
-/// overrun, under rising tickets, and all together each of them once. Each sink was given exactly the turns that are due for them, in the
-/// order in which its lock was got, each worker's in the order of its tickets. Where none of them met a fault, over a store that tells its
-/// files, it holds exactly the lines of their texts in that order, behind what it held before.
+/// overrun, under rising tickets, and all together each of them once. Each sink was given exactly the turns that are due for them, and for
+/// what was told of gaps, in the order in which its lock was got, each worker's in the order of its tickets, and beside them workers' own
+/// flushes. Where no turn on it met a fault, over a store that tells its files, it holds exactly the lines of those texts in that order,
+/// behind what it held before.
 /// It does nothing: its contract is the law.
 pub fn workers_write_what_was_posted<S: Store>()
     ensures { WorkersWriteWhatWasPosted S.tells S.files S.failures }
 {}
 
-/// Where a pool of one worker has ended: each sink was given exactly the turns that are due for what was posted and not overrun, in the
-/// order of the tickets. Where none of them met a fault, over a store that tells its files, it holds exactly the lines of their texts in
-/// that order, behind what it held before.
+/// Where a pool of one worker has ended: each sink was given exactly the turns that are due for what was posted and not overrun, and for
+/// what was told of gaps, in the order of the tickets, and beside them the worker's own flushes. Where no turn on it met a fault, over a
+/// store that tells its files, it holds exactly the lines of those texts in that order, behind what it held before.
 /// It does nothing: its contract is the law.
 pub fn one_worker_writes_in_order<S: Store>()
     ensures { OneWorkerWritesInOrder S.tells S.files S.failures }

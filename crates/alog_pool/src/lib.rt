@@ -6,10 +6,10 @@
 //! handles items until the first stop, or until no ticket is left, and says in terms of the pass's own entries what was taken
 //! (`specs/Working.antt`, over `specs/Accounts.antt`): nothing was put in, the recorded tickets are the first ones of its texts
 //! and flushes, their number is counted, and it ended at its first stop or at the end of tickets. At each place the seat's own
-//! turns are those that the definition of the work gives for the items that were taken, in their order and by their tags, and beside
-//! them flushes of its own, under a tag that no item has; the place's faults count those that were answered by one
-//! (`specs/Deeds.antt`); `SinkSeat` says of one turn what it is (`specs/SinkSeat.antt`). A worker that finds the queue idle flushes
-//! each sink to which its seat wrote a line, or may have, behind its last flush, and then rests; so does one that ends.
+//! turns are those that the definition of the work gives for the items that were taken, and for what it tells of gaps, in their order
+//! and by their tags, and beside them flushes of its own, under a tag that no item has; the place's faults count those that were
+//! answered by one (`specs/Deeds.antt`); `SinkSeat` says of one turn what it is (`specs/SinkSeat.antt`). A worker that finds the queue
+//! idle, or ends, flushes each sink to which its seat wrote a line, or may have, behind its last flush.
 //!
 //! A `Producer` has a pass of the ring, two blocks, a seat of the loss book and a place at the backtrace of each logger
 //! (`BacktraceSeat`). Each of its calls is one of `Loggers` on what it lends (`specs/Producer.antt`, `BacktraceSeat.antt`). The law
@@ -21,7 +21,8 @@
 //!
 //! `Pool::shutdown` takes all back: the producers' passes and seats, then it posts a stop for each worker and joins them, and then
 //! it has all parts, so that it knows the whole history (`specs/Report.antt`; what is known on the way stands in
-//! `specs/Ended.antt`). The law `one_worker_writes_in_order` says what a pool of one worker wrote (`specs/OneWorker.antt`).
+//! `specs/Ended.antt`). The law `workers_write_what_was_posted` says what a pool wrote (`specs/Workers.antt`), and
+//! `one_worker_writes_in_order` what one of one worker did (`specs/OneWorker.antt`).
 //!
 //! Read `gate.rt`, `shared.rt`; then `worker.rt`, `sink_seat.rt`, `gaps.rt` (what a worker says of items that others took),
 //! `item_wait.rt` (how it waits); then `producer.rt`, `backtrace_seat.rt`; then `setup.rt`, `pool_parts.rt`, `works.rt`, `pool.rt`;

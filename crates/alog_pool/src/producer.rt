@@ -108,8 +108,10 @@ impl Producer {
     }
 
     /// Logs a message to the logger of this number, as `Loggers::log` does: under `Block` it waits for room, so that it is discarded
-    /// only where no ticket is left, and where the logger has a backtrace it waits for its lock. The copy for a backtrace takes
-    /// memory, and nothing else does.
+    /// only where no ticket is left, and where the logger has a backtrace it waits for its lock. That it returns is not promised.
+    ///
+    /// Memory is taken for the backtrace's copy alone, where the text has more than 70 bytes or there is a source. A refused message
+    /// changes nothing.
     pub fn log(
         &mut self,
         rt: &(impl Wait + Clock),
@@ -148,8 +150,9 @@ impl Producer {
         backtrace_seat.log(rt, alloc, &shared.loggers, &mut port, given)
     }
 
-    /// Logs a message to the logger of this number, as `Loggers::log_now` does: it never waits. The copy for a backtrace takes
-    /// memory, and nothing else does.
+    /// Logs a message to the logger of this number, as `Loggers::log_now` does, and never waits: `Block` is read as `DiscardNew`, and
+    /// where another thread has the lock of the backtrace no copy is kept, as the answer says. Memory is taken as by `log`, also for a
+    /// copy that is not kept. A refused message changes nothing.
     pub fn log_now(
         &mut self,
         alloc: Global,
@@ -185,7 +188,8 @@ impl Producer {
         backtrace_seat.log_now(alloc, &shared.loggers, &mut port, given)
     }
 
-    /// Posts a flush of the logger of this number, as `Loggers::flush` does: it takes no memory and never waits.
+    /// Posts a flush of the logger of this number, as `Loggers::flush` does: it takes no memory and never waits. `Block` is read as
+    /// `DiscardNew`.
     pub fn flush(&mut self, number: u32) -> Outcome<()>
         requires known { number < length self.old.shared.loggers }
         ensures post { (s : Spec) → spec_at self.old.shared.loggers number ≡ Some s
@@ -199,7 +203,7 @@ impl Producer {
     }
 
     /// Posts a flush of the logger of this number, as `Loggers::flush_wait` does: under `Block` it waits for room, so that it is
-    /// discarded only where no ticket is left. It takes no memory.
+    /// discarded only where no ticket is left. It takes no memory. That it returns is not promised.
     pub fn flush_wait(&mut self, rt: &(impl Wait + Clock), number: u32) -> Outcome<()>
         requires known { number < length self.old.shared.loggers }
         ensures post { (s : Spec) → spec_at self.old.shared.loggers number ≡ Some s
@@ -215,7 +219,10 @@ impl Producer {
     }
 
     /// Posts what the backtrace of the logger of this number kept, as `Loggers::dump_shared` does: it waits for the lock of the
-    /// backtrace, and its posts never wait. Memory is taken for the outcomes alone.
+    /// backtrace, and its posts never wait. That it returns is not promised.
+    ///
+    /// Memory is taken for the outcomes alone, before it waits: for two more than the backtrace may keep, also where it kept nothing.
+    /// Where there is none, nothing changes.
     pub fn dump_backtrace(
         &mut self,
         rt: &impl Wait,

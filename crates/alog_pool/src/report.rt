@@ -20,7 +20,8 @@ pub struct Totals {
     pub discarded: u64,
     /// Taken out of the queue by a post, to make room.
     pub overrun: u64,
-    /// Taken out of the queue by a worker, which made the turns that were due.
+    /// Taken out of the queue by a worker, which made the turns that were due. What a pool whose host brings the threads makes of the
+    /// queue at its end counts with them.
     pub handled: u64,
 }
 

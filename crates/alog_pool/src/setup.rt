@@ -3,16 +3,17 @@ use alog_registry::Loggers;
 use alog_sink::{Sink, Store};
 use std::fmt;
 
-/// What a pool is started with. The sinks that a logger names are among these, by number, and each writes any text of the limit.
+/// What a pool is started with. Each sink writes any text of the limit, by condition. A logger names its sinks by their places among
+/// these; at a number past the last one nothing is done.
 #[derive(Drop)]
 pub struct Setup<S: Store> {
     /// The number of places of the queue: a power of two from 2 to 65,536.
     pub queue: usize,
     /// The first ticket, below 2^62.
     pub first: u64,
-    /// 1 to 64.
+    /// How many workers, 1 to 64.
     pub workers: usize,
-    /// How many tickets of each worker the report tells.
+    /// How many tickets of each worker the report tells at most. Each worker has room for so many from its start.
     pub tickets_max: usize,
     /// Whether a pool of one worker tells gaps: in front of a text the worker writes one that says how many texts and flushes are missing
     /// there, since posts overran them: a warning of that text's logger and time. With more workers nothing says so.

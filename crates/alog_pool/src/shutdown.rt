@@ -30,7 +30,8 @@ use std::time::Clock;
 
 impl<S: Store + Drop + Send + 'static> Pool<S> {
     /// Ends the pool, when its producers have come back: it tells its workers to stop, waits until each has handled what it took,
-    /// and answers what became of all messages. It takes no memory.
+    /// and answers what became of all messages. It takes no memory. That it returns is not promised: a store in which a worker waits
+    /// keeps it.
     ///
     /// Where fewer producers come back than were made, nothing is done, and pool and producers come back. More can not come back: each
     /// brings a part of the queue, and there are no more parts than all.

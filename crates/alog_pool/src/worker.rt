@@ -48,7 +48,8 @@ pub struct Worker<S: Store> {
 }
 
 impl<S: Store> Worker<S> {
-    /// Handles items until the first stop, or until no ticket is left.
+    /// Handles items until the first stop, or until no ticket is left. It waits where no item is there, so that it returns is not
+    /// promised.
     pub fn work<R: Wait + Clock, G: Gate>(self, rt: &R, gate: &G) -> Worker<S>
         requires { IsAtWork self self }
         ensures { HasWorked self result }

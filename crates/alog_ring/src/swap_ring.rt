@@ -19,7 +19,8 @@ use std::fmt;
 use std::marker::Model;
 use thiserror::Error;
 
-/// Why no swap ring was made: the spares come back. The test `a_swap_ring_of_two` of `test_queue` shows it.
+/// Why no swap ring was made: the spares come back. `BadSize` is the reason, too, where there are not as many spares as places. The
+/// test `a_swap_ring_of_two` of `test_queue` shows it.
 #[derive(Debug, Drop, Error)]
 #[error("{why}")]
 pub struct SwapNewError<B> {
@@ -69,8 +70,8 @@ impl<B> SwapRing<B> {
     /// Makes a swap ring without a cell, and its first pass, which has all of the ring's parts.
     ///
     /// The ring has `places` places, a power of two from 2 to 65,536, and its first ticket is `first`, below 2^62. The spares are
-    /// as many, and spare number i goes to place i. All memory that the ring ever takes is taken here. The test
-    /// `a_swap_ring_of_two` shows it.
+    /// as many, and spare number i goes to place i; another number of spares is refused as a bad size. All memory that the ring ever
+    /// takes is taken here. The test `a_swap_ring_of_two` shows it.
     pub fn new(
         alloc: Global,
         places: usize,

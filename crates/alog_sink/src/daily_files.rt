@@ -71,7 +71,7 @@ impl Model for DailyFiles {
 }
 
 impl DailyFiles {
-    /// The daily_files of `file`, before its first line.
+    /// The files by days of `file`, before the first line.
     ///
     /// A period begins at `hour`, 0 to 23, and `minute`, 0 to 59. `max_files` is at most 1,000.
     pub(crate) fn open(

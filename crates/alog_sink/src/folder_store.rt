@@ -24,8 +24,9 @@ const ASIDE: (&str, &str) = (".", ".replaced");
 /// until it is renamed or removed. Its buffer is written when it is full, before a rename of it and a size, at a flush, and when
 /// the store is dropped, which tells no failure. Before a removal, and a rename to its name, it is not: where there is no room for
 /// it, these make some. A call fails where the system refuses what it asks, a write of the buffer among it, where memory is wanting,
-/// and where a name leads out of the folder or is of the form `.X.replaced`; why the last one that failed did is kept. What could not
-/// be written stays in the buffer, and the next call on that file tries it again.
+/// and, but for a flush, where a name leads out of the folder or is of the form `.X.replaced`; a flush of a file that is not open does
+/// nothing. Why the last call that failed did is kept. What could not be written stays in the buffer, and the next call that writes
+/// it tries it again.
 ///
 /// The system may change files as it likes, so this store does not tell what it holds. A rename to `X` sets aside what had
 /// that name, as `.X.replaced`, and removes it when the file has its new name: some file systems, ext4 among them, write a

@@ -82,7 +82,8 @@ impl<S: Store> Leaf<S> {
         self.face.may_write(message, line)
     }
 
-    /// Gives a message to the sink: the buffer is cleared, and holds its line where one was written.
+    /// Gives a message to the sink. Below its level, or where it is broken, nothing happens; otherwise the buffer has the line then, also
+    /// where the store failed.
     pub(crate) fn take(&mut self, message: &Message, line: &mut LineBuf) -> Result<Taken, SinkError>
         requires { MayWrite self.old.face message.now line.old.capacity }
         ensures takes { Takes S.tells S.files S.failures self.old message.now result self.new }
@@ -123,7 +124,7 @@ impl<S: Store> Leaf<S> {
         }
     }
 
-    /// Flushes the sink's file.
+    /// Flushes the sink's file, where there is one and the sink is not broken.
     pub(crate) fn flush(&mut self) -> Result<(), SinkError>
         ensures { Flushes S.tells S.files S.failures self.old result self.new }
     {

@@ -110,7 +110,8 @@ impl<S: Store + Drop> Sink<S> {
     }
 
     /// A sink that appends its lines to a base, as long as that has at most `max_size` bytes with them, and keeps what the
-    /// base had before in up to `max_files` further files: `log.1.txt` and on of `log.txt`.
+    /// base had before in up to `max_files` further files: `log.1.txt` and on of `log.txt`. A line that is longer than `max_size`
+    /// has a base of its own.
     ///
     /// `max_size` is 1 to 2^40 bytes and `max_files` 0 to 1,000. The refusals are `BadLimit`, `BadName`, `OutOfMemory`, and
     /// `Store` where the store fails to tell the base's size. The rule is spdlog's, of its rotating file sink.

@@ -34,9 +34,10 @@ impl<S: Store> Sink<S> {
 
     /// Gives a message to the sink.
     ///
-    /// A message of a level below the sink's answers `Below`, and nothing else happens, even in a broken sink. Otherwise
-    /// the buffer is cleared and has the line, which goes to the sink's files. A fan gives the message to each member in
-    /// order, whatever the others answer, and answers the first fault.
+    /// A message of a level below the sink's answers `Below`, and nothing else happens, even in a broken sink. Another one
+    /// is answered by the fault of a broken sink, which does nothing either. Otherwise the buffer is cleared and has the line,
+    /// which goes to the sink's files. A fan gives the message to each member in order, whatever the others answer, and
+    /// answers the first fault.
     pub fn take(&mut self, message: &Message, line: &mut LineBuf) -> Result<Taken, SinkError>
         requires { MayTake self.old message.now line.old.capacity }
         ensures takes { SinkTakes S.tells S.files S.failures self.old message.now result self.new }
@@ -49,8 +50,8 @@ impl<S: Store> Sink<S> {
         }
     }
 
-    /// Flushes the file that lines go to now, by one call of the store; a daily sink without one makes none. A fan
-    /// flushes each member in order, whatever the others answer, and answers the first fault.
+    /// Flushes the file that lines go to now, by one call of the store; a daily sink without one makes none, and a broken sink
+    /// answers its fault. A fan flushes each member in order, whatever the others answer, and answers the first fault.
     pub fn flush(&mut self) -> Result<(), SinkError>
         ensures { SinkFlushes S.tells S.files S.failures self.old result self.new }
     {
