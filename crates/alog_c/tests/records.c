@@ -1,4 +1,4 @@
-/* The records of alog_next_record, whole and spoiled: records FOLDER. The folder is not used. */
+/* The records of alog_next_record and alog_next_append, whole and spoiled: records FOLDER. The folder is not used. */
 #include "alog.h"
 #include "trial.h"
 
@@ -183,6 +183,107 @@ static void any(void)
     EXPECT(found > 0, 1);
 }
 
+/* Whether a record behind an append of "x" to a.txt is read as one more of these. Where it is not, all stays as it was. */
+static int is_more(size_t length, alog_record *it)
+{
+    alog_record before;
+    size_t at = 0, stayed;
+    EXPECT(alog_next_record(made, length, &at, it), 1);
+    before = *it;
+    stayed = at;
+    if (alog_next_append(made, length, &at, it)) {
+        EXPECT(at, length);
+        return 1;
+    }
+    EXPECT(at == stayed && it->deed == before.deed && it->name == before.name && it->name_length == before.name_length, 1);
+    EXPECT(it->rest == before.rest && it->rest_length == before.rest_length, 1);
+    return 0;
+}
+
+static int more(uint32_t deed, const char *name, size_t name_length, const char *rest, size_t rest_length)
+{
+    alog_record it;
+    start();
+    add_record(ALOG_APPEND, "a.txt", 5, "x", 1);
+    add_record(deed, name, name_length, rest, rest_length);
+    return is_more(made_length, &it);
+}
+
+static void appends(void)
+{
+    alog_record it;
+    EXPECT(more(ALOG_APPEND, "a.txt", 5, "", 0), 1);
+    EXPECT(more(ALOG_APPEND, "b.txt", 5, "yz", 2), 0);
+    EXPECT(more(ALOG_APPEND, "a.tx", 4, "tyz", 3), 0);
+    EXPECT(more(ALOG_APPEND, "a.txt2", 6, "yz", 2), 0);
+    EXPECT(more(ALOG_FLUSH, "a.txt", 5, "", 0), 0);
+    EXPECT(more(ALOG_REMOVE, "a.txt", 5, "", 0), 0);
+    EXPECT(more(ALOG_RENAME, "a.txt", 5, "b.txt", 5), 0);
+    EXPECT(more(0, "a.txt", 5, "yz", 2), 0);
+    EXPECT(more(ALOG_APPEND + 256, "a.txt", 5, "yz", 2), 0);
+    EXPECT(more(ALOG_APPEND, "a.txt", 5, "yz", 2), 1);
+    for (size_t length = 22; length < made_length; length++) {
+        char *whole = made;
+        made = malloc(length);
+        if (made == NULL)
+            abort();
+        memcpy(made, whole, length);
+        EXPECT(is_more(length, &it), 0);
+        free(made);
+        made = whole;
+    }
+    EXPECT(is_more(made_length, &it), 1);
+    EXPECT(it.rest == made + 43 && it.rest_length == 2, 1);
+    made[22 + 12] = 1;
+    EXPECT(is_more(made_length, &it), 0);
+    made[22 + 12] = 0;
+    memset(made + 22 + 8, 0xff, 4);
+    EXPECT(is_more(made_length, &it), 0);
+}
+
+/* Reads the next record as alog_host_do does. */
+static int next_of_both(size_t *at, alog_record *it)
+{
+    return it->deed == ALOG_APPEND && it->name != NULL && alog_next_append(made, made_length, at, it) ? 1 : alog_next_record(made, made_length, at, it);
+}
+
+/* Records of few files, some of them spoiled: read so, they are what alog_next_record reads. */
+static void alike(void)
+{
+    static const char *const names[] = {"a", "b", "ab"};
+    unsigned long appended = 0, refused = 0;
+    uint32_t state = 7;
+    for (int round = 0; round < 20000; round++) {
+        alog_record one = {ALOG_FLUSH, NULL, 0, NULL, 0}, both = {ALOG_FLUSH, NULL, 0, NULL, 0};
+        size_t at = 0, at_both = 0;
+        int found, found_both;
+        start();
+        for (int i = 0; i < 6; i++) {
+            const char *name;
+            state = state * 1664525 + 1013904223;
+            name = names[(state >> 24) % 3];
+            add_record(state >> 16 & 3 ? ALOG_APPEND : ALOG_FLUSH, name, strlen(name), "xyz", state >> 16 & 3);
+        }
+        state = state * 1664525 + 1013904223;
+        if (state >> 30 == 0)
+            made[(state >> 8) % made_length] = (char)(made[(state >> 8) % made_length] ^ 1 << (state >> 27 & 7));
+        if (state >> 30 == 1)
+            made_length -= (state >> 8) % 20;
+        do {
+            found = alog_next_record(made, made_length, &at, &one);
+            found_both = next_of_both(&at_both, &both);
+            EXPECT(found == found_both && at == at_both, 1);
+            if (found > 0 && found_both > 0) {
+                EXPECT(one.deed == both.deed && one.rest == both.rest && one.rest_length == both.rest_length, 1);
+                EXPECT(one.name_length == both.name_length && memcmp(one.name, both.name, one.name_length) == 0, 1);
+                appended += one.name != both.name;
+            }
+        } while (found > 0 && found_both > 0);
+        refused += found < 0;
+    }
+    EXPECT(appended > 1000 && refused > 1000, 1);
+}
+
 int main(int argc, char **argv)
 {
     (void)argv;
@@ -192,6 +293,8 @@ int main(int argc, char **argv)
     cut();
     wrong();
     any();
+    appends();
+    alike();
     start();
     return trial_end();
 }
