@@ -380,9 +380,11 @@ static inline enum alog_answer alog_work(alog_worker *worker, size_t most, size_
     return worker == NULL ? ALOG_NULL : alog_answer_of(alog_c_work(worker, most, items == NULL ? &own : items));
 }
 
-/* Tells in `faults` how many turns at sinks this worker made so far that were faults, as the report counts them, at most 2^64 - 1. Above 0 a
-   sink is broken, and its lines are missing from then on. It only looks; but it is a call on the handle, so the thread makes it that has the
-   worker, behind its alog_work. Where it is refused, `faults` is as it was. When the worker was given back, the report alone has its faults. */
+/* Tells in `faults` how many turns at sinks this worker made so far that were faults, as the report counts them, at most 2^64 - 1: each flush of a
+   broken sink, and each message that its level lets through; one for a fan, whichever of its members are broken. Above 0 a sink or a member of
+   one is broken, and its lines are missing from then on; how many they are the number does not say. It only looks; but it is a call on the
+   handle, so the thread makes it that has the worker, behind its alog_work. Where it is refused, `faults` is as it was. When the worker was given
+   back, the report alone has its faults. */
 static inline enum alog_answer alog_worker_faults(alog_worker *worker, uint64_t *faults)
 {
     return worker == NULL || faults == NULL ? ALOG_NULL : alog_answer_of(alog_c_faults(worker, faults));

@@ -98,7 +98,8 @@ class host {
     // The same, with the errno of the first one, or 0.
     std::uint64_t failures(int &first_errno) const { return alog_failures(&host_, &first_errno); }
 
-    // How many turns at sinks were faults since the start: above 0 a sink found no empty area, and its lines are missing from then on.
+    // How many turns at sinks were faults since the start: above 0 a sink, or a member of a fan, found no empty area, and its lines are missing from
+    // then on. How many they are the number does not say: a flush of it is one, too.
     std::uint64_t faults() const { return alog_faults(&host_); }
 
     // How many messages were refused: they are missing, and no total of the report counts them.
