@@ -21,7 +21,7 @@ use Rattle.alog_msg.specs.declared.level.Level.{Level}
 use Rattle.alog_msg.specs.declared.message.Message.{Message}
 use Rattle.alog_msg.specs.declared.message.MessageError.{MessageError}
 use Rattle.alog_policy.specs.declared.policy.Outcome.TheVariants.{Posted}
-use Rattle.alog_policy.specs.declared.policy.Policy.TheVariants.{Block, OverrunOldest}
+use Rattle.alog_policy.specs.declared.policy.Policy.TheVariants.{OverrunOldest}
 use Rattle.alog_pool.proofs.SharedBack.{sum_of_map}
 use Rattle.alog_pool.specs.Deeds.{Due, all_dues, dues_on}
 use Rattle.alog_pool.specs.OneWorker.{HoldsMore, IsWritten, texts_in}
@@ -40,10 +40,10 @@ use Rattle.alog_sink.specs.Files.{Files}
 use Rattle.alog_sink.specs.declared.sink.Sink.{Sink}
 use Rattle.test_laws.specs.Written.{HoldsAt}
 use Rattle.test_laws.proofs.Claims.{Given, alone_is, first_at}
-use Rattle.test_laws.proofs.Dues.{due_texts, dues_more, once_alone, texts_more}
+use Rattle.test_laws.proofs.Dues.{due_texts, dues_more, texts_more}
 use Rattle.test_laws.proofs.Held.{Held}
 use Rattle.test_laws.proofs.Merged.{HaveNone, HaveOne, IsAlone, alone_in, count, merged_one}
-use Rattle.test_laws.proofs.OneText.{WritesToOne, held_at}
+use Rattle.test_laws.proofs.OneText.{held_at}
 
 -- two lists that are none together, and two that have one text together
 both_none : (xs ys : List Due) → [] ≡ xs ++ ys → (xs ≡ []) × (ys ≡ [])
@@ -140,6 +140,13 @@ record PutsOneIn (p : ProducerView) (i : Given) : Type 0 where
   work : i.1 ≢ Stop
   puts : claims p.pass.known.own ≡ i ∷ []
   took : takes p.pass.known.own ≡ []
+
+-- the logger of a number does not overrun the oldest, and writes to this sink once
+pub record WritesOnce (loggers : List Logger) (number n : ℕ) : Type 0 where
+  pub spec : Spec
+  pub found : spec_at loggers number ≡ Some spec
+  pub keeps : spec.policy ≢ OverrunOldest
+  pub once : count_by (λ (k : ℕ). k == n) spec.sinks.items ≡ 1
 
 module _ {S : Type 0} (tells : Bool) (files : S → Files) (failures : S → ℕ) where
   -- the sink of a number among those that were written: its lane, what it is now, and the turns that led there
@@ -263,7 +270,7 @@ module _ {S : Type 0} (tells : Bool) (files : S → Files) (failures : S → ℕ
 
   pub logged_alone : HostedPoolsWriteAll tells files failures → PostedLogsPutTheirTextIn → {hosted : HostedView S} {number : ℕ} {level : Level}
       {time : ℤ} {text : List ℕ} {r : Report S} → LoggedOnce hosted number level time text r → tells ≡ true
-      → {n : ℕ} → WritesToOne hosted.shared.loggers number n → slice_get r.faults.items n ≡ Some 0
+      → {n : ℕ} → WritesOnce hosted.shared.loggers number n → slice_get r.faults.items n ≡ Some 0
       → HoldsAt files n hosted.lanes r.sinks.items (message_with number level time 0 text None)
   logged_alone law texts {hosted} {number} {level} {time} {text} {r} once tell {n} logger none =
       let s = logger.spec in
@@ -276,16 +283,14 @@ module _ {S : Type 0} (tells : Bool) (files : S → Files) (failures : S → ℕ
       let one : PutsOneIn once.last i = record {
         work = λ same. absurd (cc same);
         puts = put.0 ∙ ap (λ (h : List (Entry Item block_note)). claims h ++ i ∷ []) once.makes.entries.0;
-        took = put.1 (λ over. let bad : Block ≡ OverrunOldest = sym logger.waits ∙ over in absurd (cc bad))
-            ∙ ap (λ (h : List (Entry Item block_note)). takes h) once.makes.entries.0;
+        took = put.1 logger.keeps ∙ ap (λ (h : List (Entry Item block_note)). takes h) once.makes.entries.0;
       } in
       let written = law once.end (once.last ∷ []) once.workers r
       (subst (λ (ps : List ProducerView). Disbands tells files failures once.end ps once.workers r) once.all once.ends) in
       let lent_is : hosted ≡ once.end.hosted = once.lends ∙ sym once.makes.same.hosted ∙ sym once.same in
       let there : spec_at once.end.hosted.shared.loggers number ≡ Some s =
       subst (λ (h : HostedView S). spec_at h.shared.loggers number ≡ Some s) lent_is logger.found in
-      let often = ap (λ (is : List ℕ). count_by (λ (s : ℕ). s == n) is) logger.sinks ∙ once_alone n in
-      let due = due_texts once.end.hosted.shared.loggers number n s there often (i ∷ []) (refl, tt) in
+      let due = due_texts once.end.hosted.shared.loggers number n s there logger.once (i ∷ []) (refl, tt) in
       let held = holds_one written i one n m due tell none in
       let zero_is : once.made.number ≡ 0 = once.makes.number ∙ once.new in
       subst (λ (v : HostedView S × ℕ). HoldsAt files n v.0.lanes r.sinks.items (message_with number level time v.1 text None))

@@ -39,13 +39,6 @@ use Rattle.test_laws.proofs.Gaps.{IsFirsts}
 use Rattle.test_laws.proofs.Held.{EndsAlone, Held, texts_are, texts_held, written}
 use Rattle.test_laws.proofs.LastLine.{ends_with}
 
--- the logger of a number waits for room, and writes to one sink
-pub record WritesToOne (loggers : List Logger) (number n : ℕ) : Type 0 where
-  pub spec : Spec
-  pub found : spec_at loggers number ≡ Some spec
-  pub waits : spec.policy ≡ Block
-  pub sinks : spec.sinks.items ≡ n ∷ []
-
 module _ {S : Type 0} (tells : Bool) (files : S → Files) (failures : S → ℕ) where
   -- a sink that holds one message more
   pub held_at : {n : ℕ} {lanes : List (LaneId (Sink S))} {sinks : List (Sink S)} {m : Message} → Held tells files failures n lanes sinks (m ∷ [])
@@ -71,6 +64,13 @@ module _ {S : Type 0} (tells : Bool) (files : S → Files) (failures : S → ℕ
     pub all : producers ≡ last ∷ []
     pub ends : Ends tells files failures pool producers r
     pub posted : (t k : ℕ) × (kept : Bool) × (reply ≡ Ok (Logged (Posted t k) kept))
+
+  -- the logger of a number waits for room, and writes to one sink
+  pub record WritesToOne (loggers : List Logger) (number n : ℕ) : Type 0 where
+    pub spec : Spec
+    pub found : spec_at loggers number ≡ Some spec
+    pub waits : spec.policy ≡ Block
+    pub sinks : spec.sinks.items ≡ n ∷ []
 
   pub logged_alone : OneWorkerWritesInOrder tells files failures → PostedLogsPutTheirTextIn → {before : PoolView S} {number : ℕ} {level : Level}
       {time : ℤ} {text : List ℕ} {r : Report S} → LoggedOnce before number level time text r → length before.crew ≡ 1 → tells ≡ true

@@ -1,12 +1,12 @@
 //! From a log call in a pool whose host brings the threads to what a sink holds.
-ghost use Rattle.std.specs.Prelude.{◌≡◌, ◌≤◌, ◌<◌, ℕ, Bool, [], ◌∷◌, length, vec_capacity, IfSome, IsTrue, None, Ok, Some, slice_get, true};
+ghost use Rattle.std.specs.Prelude.{◌≡◌, ◌≢◌, ◌≤◌, ◌<◌, ◌==◌, ℕ, Bool, [], count_by, length, vec_capacity, IfSome, IsTrue, None, Ok, Some, slice_get, true};
 ghost use Rattle.std.specs.List.{AllByRecursion};
 ghost use Rattle.alog_hosted.specs.Ends.{Disbands};
 ghost use Rattle.alog_hosted.specs.Lent.{IsProducerOf};
 ghost use Rattle.alog_hosted.specs.Workers.{IsWorkerOf};
 ghost use Rattle.alog_hosted.specs.declared.once.Once.TheVariants as once;
 ghost use Rattle.alog_policy.specs.declared.policy.Outcome.TheVariants.{Posted};
-ghost use Rattle.alog_policy.specs.declared.policy.Policy.TheVariants.{Block};
+ghost use Rattle.alog_policy.specs.declared.policy.Policy.TheVariants.{OverrunOldest};
 ghost use Rattle.alog_registry.specs.Given.{message_with};
 ghost use Rattle.alog_registry.specs.Listed.{spec_at};
 ghost use Rattle.alog_registry.specs.declared.logger.Spec.{Spec};
@@ -72,10 +72,10 @@ fn end<S: Store + Drop>(
 }
 
 /// Logs one message in a hosted pool that made no producer and no worker yet, lets a worker write it, where one can be had, and ends the
-/// pool: its report, or `None` where memory is wanting or the message was not posted. Where its logger waits for room and writes to one sink,
-/// no turn on that sink met a fault and its store tells its files, the sink holds exactly that message behind what it held, whether a worker
-/// wrote it or the pool itself at its end; and where it is a memory sink whose level the message passes, its file ends with that message's
-/// line.
+/// pool: its report, or `None` where memory is wanting or the message was not posted. Where its logger does not overrun the oldest, each sink
+/// that stands once among the logger's, on which no turn met a fault and whose store tells its files, holds exactly that message behind what it
+/// held, whether a worker wrote it or the pool itself at its end; and where it is a memory sink whose level the message passes, its file ends
+/// with that message's line.
 pub fn log_hosted<S: Store + Drop>(
     alloc: Global,
     host: Host<S>,
@@ -89,7 +89,8 @@ pub fn log_hosted<S: Store + Drop>(
     requires new { (host.made ≡ 0) × (host.hired ≡ 0) }
     requires known { number < length hosted.shared.loggers }
     ensures { IfSome result (λ r. S.tells ≡ true → (s : Spec) (n : ℕ)
-        → spec_at hosted.shared.loggers number ≡ Some s → s.policy ≡ Block → s.sinks.items ≡ n ∷ [] → slice_get r.faults.items n ≡ Some 0
+        → spec_at hosted.shared.loggers number ≡ Some s → s.policy ≢ OverrunOldest → count_by (λ k. k == n) s.sinks.items ≡ 1
+        → slice_get r.faults.items n ≡ Some 0
         → HoldsAt S.files n hosted.lanes r.sinks.items (message_with number level time 0 text.now None)) }
 {
     let mut host = host;

@@ -29,6 +29,6 @@ returns-then-is_posted g c =
       ends = c.end-report.ensures;
       posted = c.is_posted.ensures c.if-is_posted.true;
     } in
-    λ tell s n found waits sinks none.
+    λ tell s n found keeps single none.
     logged_alone g.S.Store.tells g.S.Store.files g.S.Store.failures c.hosted_pools_write_all.ensures c.posted_logs_put_their_text_in.ensures
-    once tell (record { spec = s; found = found; waits = waits; sinks = sinks }) none
+    once tell (record { spec = s; found = found; keeps = keeps; once = single }) none
