@@ -57,7 +57,7 @@ texts_more [] ys = refl
 texts_more (x ∷ xs) ys = ap (λ (ms : List Message). with_text x.1 ms) (texts_more xs ys) ∙ with_more x.1 (texts_in xs) (texts_in ys)
 
 module _ (n : ℕ) where
-  dues_more : (ds es : List Due) → dues_on n (ds ++ es) ≡ dues_on n ds ++ dues_on n es
+  pub dues_more : (ds es : List Due) → dues_on n (ds ++ es) ≡ dues_on n ds ++ dues_on n es
   dues_more [] es = refl
   dues_more (d ∷ ds) es =
       on_test (λ b. cond b ((d.tag, d.item) ∷ dues_on n (ds ++ es)) (dues_on n (ds ++ es))

@@ -5,6 +5,8 @@ mod Dues
 mod Gaps
 mod Held
 mod OneText
+mod Merged
+mod OneHostedText
 mod Posts
 mod PieceLogs
 mod Throughout

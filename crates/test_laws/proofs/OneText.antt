@@ -41,7 +41,7 @@ use Rattle.test_laws.proofs.LastLine.{ends_with}
 
 module _ {S : Type 0} (tells : Bool) (files : S → Files) (failures : S → ℕ) where
   -- a sink that holds one message more
-  held_at : {n : ℕ} {lanes : List (LaneId (Sink S))} {sinks : List (Sink S)} {m : Message} → Held tells files failures n lanes sinks (m ∷ [])
+  pub held_at : {n : ℕ} {lanes : List (LaneId (Sink S))} {sinks : List (Sink S)} {m : Message} → Held tells files failures n lanes sinks (m ∷ [])
       → HoldsAt files n lanes sinks m
   held_at {n} {lanes} {sinks} {m} held l k at to =
       let lane : held.lane ≡ l = let is = held.lane_is in cc in
