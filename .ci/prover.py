@@ -30,8 +30,15 @@ class Prover:
     def __init__(self):
         self.rt, root = kit(), os.getcwd()
         self.rt.Crate.allowed = self.rt.handles_of(root)
-        self.crates = {it.name: it for it in self.rt.crates_of(root)}
-        self.kept = self.rt.Kept([*self.crates.values()])
+        keeps = hasattr(self.rt, "Kept")
+        if keeps:
+            crates = self.rt.crates_of(root)
+        else:
+            # (of a kit that keeps nothing, whose `crates_of` would set the libraries aside)
+            self.rt.rtlib.Crate = self.rt.Crate
+            crates = self.rt.rtlib.crates_below(root)
+        self.crates = {it.name: it for it in crates}
+        self.kept = self.rt.Kept([*self.crates.values()]) if keeps else None
         self.guard, self.rattle = self.rt.rtlib.guarded(), self.rt.rtlib.RATTLE
         self.known = {}
 
@@ -92,9 +99,10 @@ class Prover:
         return hashlib.sha256(f"function {self.kept.of_edit(edit, self.kept.key(crate))}".encode()).hexdigest()
 
     def earlier(self, name, edit):
-        """Returns what an earlier run on this machine said of the same edit over the same files, where it was refused."""
-        told = self.kept.tried(self.entry(name, edit))
+        """Returns what an earlier run on this machine said of the same edit over the same files, where it was refused and the kit keeps that."""
+        told = self.kept and self.kept.tried(self.entry(name, edit))
         return told[1] if told else None
 
     def keep(self, name, edit, said):
-        self.kept.keep_tried(self.entry(name, edit), self.rt.REFUSED, said)
+        if self.kept:
+            self.kept.keep_tried(self.entry(name, edit), self.rt.REFUSED, said)
