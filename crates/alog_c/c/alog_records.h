@@ -94,8 +94,9 @@ static inline int alog_next_record(const char *bytes, size_t length, size_t *at,
     return 1;
 }
 
-/* Reads the record at `*at` where it appends to the file of the one that was read last, which is in `*record`, and moves `*at` behind it. Answers 0,
-   and leaves all as it was, where it does something else: then alog_next_record says what. Most records are such: their name was looked at. */
+/* Reads the record at `*at` where it appends to the file that `*record` has, and moves `*at` behind it. Answers 0, and leaves all as it was, where it
+   is another one, or none: then alog_next_record says which. `*record` is what alog_next_record, or this, read last of the same bytes, and `*at` the
+   place behind it; nothing is null. A name that was looked at is not looked at again, and most records append to the file of the one before. */
 static inline int alog_next_append(const char *bytes, size_t length, size_t *at, alog_record *record)
 {
     const char *header = bytes + *at;
