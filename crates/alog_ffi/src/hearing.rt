@@ -27,6 +27,7 @@ pub fn level_of(number: u32) -> Option<Level>
 }
 
 /// The level of its logger, where that keeps no backtrace and what was said is below that level.
+#[inline(always)]
 pub(crate) fn filter_of(loggers: &Loggers, said: Said<'_>) -> Option<Level>
     ensures { IfSome result (IsFiltered loggers.now said.entry) }
 {
@@ -41,6 +42,7 @@ pub(crate) fn filter_of(loggers: &Loggers, said: Said<'_>) -> Option<Level>
 }
 
 /// What was said, or the first reason why it is no message of these loggers.
+#[inline(always)]
 pub(crate) fn hear<'a>(loggers: &Loggers, said: Said<'a>) -> Result<Heard<'a>, Answer>
     ensures ok { IfOk result (IsHeard loggers.now said.entry) }
     ensures err { IfErr result (IsUnheard loggers.now said.entry) }
@@ -69,6 +71,7 @@ pub(crate) fn hear<'a>(loggers: &Loggers, said: Said<'a>) -> Result<Heard<'a>, A
 }
 
 /// These bytes as a text. Most texts are ASCII, and to see that all of one is takes a quarter of the instructions of the full test.
+#[inline(always)]
 fn text_of(bytes: &[u8]) -> Result<&str, Answer>
     ensures text { IfOk result (λ t. t.now ≡ bytes.now) }
     ensures refused { IfErr result (λ a. (a ≡ answer.NotUtf8) × ¬ IsUtf8 bytes.now) }
@@ -83,6 +86,7 @@ fn text_of(bytes: &[u8]) -> Result<&str, Answer>
 }
 
 /// Whether all bytes are ASCII: whether the greatest is, which a processor finds sixteen bytes at a time.
+#[inline(always)]
 fn is_ascii(bytes: &[u8]) -> bool
     ensures { IsTrue result → IsAscii bytes.now }
 {

@@ -13,6 +13,7 @@ use alog_registry::{DumpError, LogReply};
 use std::alloc::Global;
 
 /// Logs what was said, or tells why nothing was done. What its logger filters and keeps no copy of is not looked at.
+#[inline(always)]
 pub(crate) fn say(
     producer: &mut OwnedProducer<Outbox>,
     alloc: Global,

@@ -111,6 +111,7 @@ fn hears(loggers: &Loggers, logger: u32, level: Level) -> Answer
 }
 
 /// Logs what was said by a producer. Where it was posted, its ticket is told.
+#[inline(always)]
 pub fn log(alloc: Global, at: &mut AlogHandle, said: Said<'_>, ticket: &mut u64) -> Answer
     ensures { OnProducer (held at.old) (ticket.new ≡ ticket.old) (AnswersLog said.entry ticket.old ticket.new) result (held at.new) }
 {
@@ -126,6 +127,7 @@ pub fn log(alloc: Global, at: &mut AlogHandle, said: Said<'_>, ticket: &mut u64)
 }
 
 /// Logs by this producer.
+#[inline(always)]
 fn log_by(
     producer: &mut OwnedProducer<Outbox>,
     alloc: Global,
@@ -146,6 +148,7 @@ fn log_by(
 }
 
 /// Tells the ticket of what was posted.
+#[inline(always)]
 fn tell(outcome: &Outcome<()>, to: &mut u64)
     ensures { to.new ≡ ticket_by outcome.now to.old }
 {

@@ -114,6 +114,7 @@ impl BacktracePlace {
 
 impl BacktracePlace {
     /// Logs a message under the logger's policy, with this place as its keeper, and never waits.
+    #[inline(always)]
     pub(crate) fn log_once(
         &mut self,
         lane: &Lane<Backtrace>,

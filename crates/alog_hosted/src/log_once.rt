@@ -24,6 +24,7 @@ use std::alloc::Global;
 
 /// Logs a message as `Loggers::log_now` does, but for a logger whose policy is to block: of that it makes one round of a push, and where there
 /// is no room, or another push was faster, it says that it would block. Then nothing was done, and nothing is counted.
+#[inline(always)]
 pub(crate) fn log_once(
     alloc: Global,
     loggers: &Loggers,
@@ -63,6 +64,7 @@ pub(crate) fn log_once(
 }
 
 /// Makes one round of a push of a message that is at least of this level, and answers how that went, and that it is kept as told.
+#[inline(always)]
 fn bring_once(
     alloc: Global,
     port: &mut BlockPort<'_>,
@@ -149,6 +151,7 @@ fn bring_and_keep_once(
 }
 
 /// Makes one round of a push of the block in the port's hand: what lay in its place is there then. A refusal leaves it there.
+#[inline(always)]
 fn push_hand(port: &mut BlockPort<'_>) -> Result<u64, PushError<()>>
     requires { IsReadyPort port.old }
     ensures pushed { IfOk result (λ t. SwapDid port.old (Claim t (item_in port.old.hand.now) ∷ Write t ∷ []) 0 0 port.new) }

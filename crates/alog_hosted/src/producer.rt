@@ -107,6 +107,7 @@ impl HostedProducer {
     ///
     /// Memory is taken for the backtrace's copy alone, kept or not, where the text has more than 70 bytes or there is a source; `dump_once` posts
     /// what was kept. A refused message changes nothing.
+    #[inline(always)]
     pub fn log_once<S: Store>(
         &mut self,
         hosted: &Hosted<S>,

@@ -70,7 +70,7 @@ spare_field_send = struct_send (shape Spare.the_type) (
       search (sendable, Vec-send) depth 20,
       (
         search (sendable, Vec-send) depth 20,
-        (search (sendable, source_send) depth 20, tt),
+        (search (sendable, source_send) depth 20, (search sendable depth 9, tt)),
       ),
     ),
   ),
@@ -85,7 +85,7 @@ spare_field_sync = struct_sync (shape Spare.the_type) (
       search (sendable, Vec-sync) depth 20,
       (
         search (sendable, Vec-sync) depth 20,
-        (search (sendable, source_sync) depth 20, tt),
+        (search (sendable, source_sync) depth 20, (search sendable depth 9, tt)),
       ),
     ),
   ),

@@ -154,6 +154,7 @@ impl Block {
     /// Writes what `write` writes, where text and source are known not to be too long. It takes no memory.
     ///
     /// It does not look at the limit, which lies beside the block.
+    #[inline(always)]
     pub fn write_within(
         &mut self,
         logger: u32,

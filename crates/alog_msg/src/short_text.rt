@@ -39,6 +39,7 @@ impl ShortText {
     }
 
     /// Writes another text over it.
+    #[inline(always)]
     pub fn write(&mut self, text: &str)
         requires { length text.now ≤ SHORT_TEXT_MAX }
         ensures { self.new ≡ text.now }

@@ -92,6 +92,7 @@ impl Text {
     }
 
     /// Writes another text over it, in the same place.
+    #[inline(always)]
     pub(crate) fn write(&mut self, text: &str)
         requires alike { LieAlike (length self.old) (length text.now) }
         requires fits { length text.now ≤ LARGE_ROOM }

@@ -100,6 +100,7 @@ impl<S: Store> OwnedProducer<S> {
     }
 
     /// Logs a message to the logger of this number, as `HostedProducer::log_once` does.
+    #[inline(always)]
     pub fn log_once(
         &mut self,
         alloc: Global,

@@ -48,6 +48,7 @@ impl ItemOutlet for SwapPort<'_, Block, Item, Contents, TextLimit> {
 
     ghost wants_memory = { ⊥ };
 
+    #[inline(always)]
     fn text(
         &mut self,
         _alloc: Global,
