@@ -9,7 +9,7 @@ use Rattle.alog_outbox.specs.declared.found.FoundFile.{FoundFile}
 use Rattle.alog_sink.specs.Files.{AreSame, appended}
 
 pub written : (kind : Kind) (name rest old : List ℕ)
-    → (((((old ++ number (number_of kind)) ++ number (length name)) ++ number (length rest)) ++ number 0) ++ name) ++ rest ≡ old ++ record_of (call kind name rest)
+    → ((old ++ (number (number_of kind) ++ number (length name) ++ number (length rest) ++ number 0)) ++ name) ++ rest ≡ old ++ record_of (call kind name rest)
 unfolding record_of
 written kind name rest old = simp append_assoc
 

@@ -1,6 +1,6 @@
 //! An area: a reserved piece of memory, and the records in it.
 ghost use Rattle.std.specs.Prelude.{◌≡◌, ◌+◌, ◌≤◌, ◌++◌, [], length, drop, IfOk};
-ghost use Rattle.alog_outbox.specs.Calls.{call, record_of};
+ghost use Rattle.alog_outbox.specs.Calls.{call, number, number_of, record_of};
 
 use crate::AREA;
 use crate::call::Kind;
@@ -25,6 +25,17 @@ impl Model for Area {
     ghost view = { λ a. a.bytes.items };
 
     ghost invariant = { λ a. (length a.bytes.items ≡ vec_len a.bytes) × (vec_len a.bytes ≤ AREA) × (AREA ≤ vec_capacity a.bytes) };
+}
+
+/// What a record has before the name: its kind, the lengths of the name and of the rest, and 0.
+fn header(kind: Kind, name: u32, rest: u32) -> [u8; HEADER]
+    ensures { result ≡ number (number_of kind) ++ number name ++ number rest ++ number 0 }
+{
+    let mut header = [0; HEADER];
+    header[..4].copy_from_slice(&kind.number().to_le_bytes());
+    header[4..8].copy_from_slice(&name.to_le_bytes());
+    header[8..12].copy_from_slice(&rest.to_le_bytes());
+    header
 }
 
 impl Area {
@@ -57,10 +68,7 @@ impl Area {
         requires room { length self.old + (HEADER + length name.now + length rest.now) ≤ AREA }
         ensures { self.new ≡ self.old ++ record_of (call kind name.now rest.now) }
     {
-        self.put(&kind.number().to_le_bytes());
-        self.put(&(name.len() as u32).to_le_bytes());
-        self.put(&(rest.len() as u32).to_le_bytes());
-        self.put(&0_u32.to_le_bytes());
+        self.put(&header(kind, name.len() as u32, rest.len() as u32));
         self.put(name);
         self.put(rest);
     }
