@@ -97,10 +97,15 @@ texts_len limit s h (i ∷ is) =
     length-append (item_text s i) (flat_map (item_text s) is) in
     omega (arith, sum_by-cons (item_len limit) i is, item_text_len limit s h i, texts_len limit s h is)
 
--- there is room for the texts of the first items, and for what is left behind them
-pub first_fit : (limit : ℕ) (is : List Item) (n len cap : ℕ) → len + (sum_by (item_len limit) is + 1) ≤ cap
+-- there is room for the texts of the first items of the front, and for what is left behind them
+pub first_fit : (limit : ℕ) (is : List Item) (n m len cap : ℕ) → len + (sum_by (item_len limit) is + 1) ≤ cap
+    → len + sum_by (item_len limit) (take n (take m is)) < cap
+first_fit limit is n m len cap room = omega (arith, sum_by-take-le (item_len limit) (take m is) n, sum_by-take-le (item_len limit) is m)
+
+-- there is room for the texts of the front
+pub front_fits : (limit : ℕ) (is : List Item) (n len cap : ℕ) → len + (sum_by (item_len limit) is + 1) ≤ cap
     → len + sum_by (item_len limit) (take n is) < cap
-first_fit limit is n len cap room = omega (arith, sum_by-take-le (item_len limit) is n)
+front_fits limit is n len cap room = omega (arith, sum_by-take-le (item_len limit) is n)
 
 -- what is remembered is what each line of that second begins with
 pub first_texts : (s : Shown) (at : Civil) (is : List Item) (n : ℕ) (bytes : List ℕ) → s.at ≡ at → AreFirst is at n bytes
@@ -134,7 +139,7 @@ rest_is is n = take_all (length is - n) (drop n is) (omega (arith, length-drop n
 
 -- there is room for a remembered text, and for what is left behind it
 pub first_room : {limit : ℕ} {s : Shown} → IsShowable limit s → (is : List Item) (n : ℕ) {bytes : List ℕ} (len cap : ℕ)
-    → bytes ≡ flat_map (item_text s) (take n is) → len + (sum_by (item_len limit) is + 1) ≤ cap
+    → bytes ≡ flat_map (item_text s) (take n is) → len + sum_by (item_len limit) is < cap
     → len + length bytes + sum_by (item_len limit) (drop n is) < cap
 first_room {limit} {s} h is n len cap written room =
     omega (arith, ap length written, texts_len limit s h (take n is), sum_by-take-drop (item_len limit) is n)

@@ -5,6 +5,7 @@ pub mod SharedCrosses
 mod FirstItems
 mod Gaps
 mod ItemTexts
+mod Named
 pub mod SharedOffsets
 mod OneLine
 pub mod Overwrites

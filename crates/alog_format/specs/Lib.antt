@@ -7,3 +7,4 @@ pub mod Civil
 pub mod Text
 pub mod Line
 pub mod Lasting
+pub mod Naming

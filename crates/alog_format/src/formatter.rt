@@ -8,7 +8,8 @@ use crate::civil::{Civil, civil_at, fields_of, local};
 use crate::context::{Context, Zone};
 use crate::lasting::count_lasting;
 use crate::line_buf::LineBuf;
-use crate::lines::{facts_of, put, write_items, write_line};
+use crate::lines::{facts_of, put, write_behind, write_items, write_line};
+use crate::naming::{Naming, start_of_names};
 use alog_msg::{LOGGER_NAME_MAX, Message};
 use alog_pattern::Pattern;
 use arrayvec::ArrayVec;
@@ -43,12 +44,17 @@ pub fn format(
 /// The most bytes of a line that a formatter remembers.
 const FIRST_MAX: usize = 64;
 
-/// Appends the lines of a pattern as `format` does, and remembers the second of the last one, as spdlog's
-/// `pattern_formatter` does: the date and the time of day are worked out again only for a message of another second, or
-/// where the clock is at another offset. From the second line of a second on it remembers the text of the first items too, as
-/// far as it is the same throughout a second and has at most 64 bytes.
+/// Appends the lines of a pattern as `format` does, and remembers two things of the last one.
 ///
-/// The test `remembers_a_second` of `test_lines` shows one.
+/// The first is its second, as spdlog's `pattern_formatter` does: the date and the time of day are worked out again only for a
+/// message of another second, or where the clock is at another offset. From the second line of a second on it remembers the
+/// text of the first items too, as far as it is the same throughout a second and has at most 64 bytes.
+///
+/// The other is its logger's name with its level. From the second line in a row with the same two on it remembers the
+/// text of the first run of items that hang on these alone, if one of the run shows the name or the level, and the text
+/// has at most 128 bytes: in `%e] [%n] [%l] %v` that of `] [%n] [%l] `.
+///
+/// The tests `remembers_a_second` and `remembers_a_name` of `test_lines` show one.
 #[derive(Debug, Drop)]
 pub struct Formatter {
     pattern: Pattern,
@@ -60,26 +66,32 @@ pub struct Formatter {
     at: DateTime,
     /// Its fields, with the nanoseconds of the last line.
     civil: Civil,
-    /// How many of the first items are remembered.
+    /// Where the run of items begins that hang on name and level alone.
+    from: usize,
+    /// How many of the first items are remembered, of those before that run.
     count: usize,
     /// Their text in that second.
     first: ArrayVec<u8, FIRST_MAX>,
     /// Whether the next line of that second is its second one, for which the first items are worth remembering.
     is_fresh: bool,
+    /// What is remembered of the items from the run on.
+    naming: Naming,
 }
 
 impl Model for Formatter {
-    ghost use Rattle.std.specs.Prelude.{◌≡◌, ◌+ℤ◌};
+    ghost use Rattle.std.specs.Prelude.{◌≡◌, ◌≤◌, ◌+ℤ◌, drop, length, take};
     ghost use Rattle.jiff.specs.Words.{civil_seconds};
     ghost use Rattle.alog_format.specs.Civil.{fields, with_nanosecond};
     ghost use Rattle.alog_format.specs.Lasting.{AreFirst, FormatterView};
+    ghost use Rattle.alog_format.specs.Naming.{Remembers};
 
     ghost Value = { FormatterView };
 
     ghost view = { λ f. record { pattern = f.pattern; at = f.civil } };
 
     ghost invariant = { λ f. (civil_seconds f.at ≡ f.second +ℤ f.offset)
-        × (f.civil ≡ with_nanosecond f.civil.nanosecond (fields f.offset f.at)) × AreFirst f.pattern.items f.civil f.count f.first.items };
+        × (f.civil ≡ with_nanosecond f.civil.nanosecond (fields f.offset f.at)) × (f.from ≤ length f.pattern.items)
+        × AreFirst (take f.from f.pattern.items) f.civil f.count f.first.items × Remembers (drop f.from f.pattern.items) f.naming };
 }
 
 impl Formatter {
@@ -90,15 +102,18 @@ impl Formatter {
         ensures { result.pattern ≡ pattern }
     {
         let at = local(0, 0);
+        let from = start_of_names(pattern.items());
         Formatter {
             pattern,
             second: 0,
             offset: 0,
             at,
             civil: fields_of(0, at),
+            from,
             count: 0,
             first: ArrayVec::new(),
             is_fresh: true,
+            naming: Naming::new(),
         }
     }
 
@@ -126,9 +141,18 @@ impl Formatter {
     {
         self.turn_to(context, name, message, line);
         let facts = facts_of(context, name, message, previous, &self.civil);
-        put(line, self.first.as_slice());
-        let rest = &self.pattern.items()[self.count..];
-        write_items(line, rest, self.pattern.text_limit(), &facts);
+        let text_limit = self.pattern.text_limit();
+        let items = self.pattern.items();
+        write_behind(
+            line,
+            self.first.as_slice(),
+            self.count,
+            &items[..self.from],
+            text_limit,
+            &facts,
+        );
+        self.naming
+            .write(line, &items[self.from..], text_limit, &facts);
         put(line, b"\n");
     }
 
@@ -181,15 +205,11 @@ impl Formatter {
         ensures same { self.new ≡ self.old }
         ensures line { line.new ≡ line.old }
     {
-        let count = count_lasting(self.pattern.items());
+        let front = &self.pattern.items()[..self.from];
+        let count = count_lasting(front);
         let facts = facts_of(context, name, message, None, &self.civil);
         let start = line.len();
-        write_items(
-            line,
-            &self.pattern.items()[..count],
-            self.pattern.text_limit(),
-            &facts,
-        );
+        write_items(line, &front[..count], self.pattern.text_limit(), &facts);
         self.is_fresh = false;
         self.first.clear();
         self.count = match self.first.try_extend_from_slice(&line.as_slice()[start..]) {

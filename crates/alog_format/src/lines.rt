@@ -1,4 +1,4 @@
-ghost use Rattle.std.specs.Prelude.{◌≡◌, ◌+◌, ◌≤◌, ◌<◌, ◌∷◌, [], length, sum_by, false, ◌^◌, FitsSigned};
+ghost use Rattle.std.specs.Prelude.{◌≡◌, ◌+◌, ◌≤◌, ◌<◌, ◌∷◌, [], length, sum_by, take, false, ◌^◌, FitsSigned};
 ghost use Rattle.std.specs.Int.{w64};
 ghost use Rattle.std.specs.List.{flat_map};
 ghost use Rattle.alog_pattern.specs.Compiled.{longest};
@@ -84,6 +84,26 @@ pub(crate) fn write_items(line: &mut LineBuf, items: &[Item], text_limit: usize,
     for item in items {
         write_item(line, item, facts);
     }
+}
+
+/// Appends the texts of items in order, as `write_items` does, where that of the first so many is known.
+pub(crate) fn write_behind(
+    line: &mut LineBuf,
+    known: &[u8],
+    count: usize,
+    items: &[Item],
+    text_limit: usize,
+    facts: &Facts<'_>,
+)
+    requires showable { IsShowable text_limit (shown_by facts.now) }
+    requires room { length line.old.bytes + sum_by (item_len text_limit) items.now < line.old.capacity }
+    requires count { count ≤ length items.now }
+    requires known { known.now ≡ flat_map (item_text (shown_by facts.now)) (take count items.now) }
+    ensures written { line.new ≡ appended line.old (flat_map (item_text (shown_by facts.now)) items.now) }
+    ensures room_left { length line.new.bytes < line.new.capacity }
+{
+    put(line, known);
+    write_items(line, &items[count..], text_limit, facts);
 }
 
 /// Appends the text of an item.

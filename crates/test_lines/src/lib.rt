@@ -1,7 +1,7 @@
 //! Tests of messages, patterns and lines over the public surface of `alog_msg`, `alog_pattern` and `alog_format`.
 //!
 //! They are here, and not in those crates, since a crate with tests is proved twice. Read `msg_tests.rt`, `block_tests.rt`,
-//! `pattern_tests.rt`, `buffer_tests.rt`, `format_tests.rt`, `formatter_tests.rt` and `zone_tests.rt`, then `spaces.rt` (padding as a plain program) and `padding_tests.rt` (it beside the lines that are made).
+//! `pattern_tests.rt`, `buffer_tests.rt`, `format_tests.rt`, `formatter_tests.rt`, `naming_tests.rt` and `zone_tests.rt`, then `spaces.rt` (padding as a plain program) and `padding_tests.rt` (it beside the lines that are made).
 #![tactic(auto)]
 
 #[cfg(test)]
@@ -14,6 +14,8 @@ mod format_tests;
 mod formatter_tests;
 #[cfg(test)]
 mod msg_tests;
+#[cfg(test)]
+mod naming_tests;
 #[cfg(test)]
 mod padding_tests;
 #[cfg(test)]

@@ -7,4 +7,6 @@ invariant_of-result c = (
   seconds_are (pos 0) (pos 0) (pos 0) c.local-at.result c.local-at.ensures refl,
   rw c.fields_of.ensures refl,
   search rules,
+  search rules,
+  search rules,
 )

@@ -19,22 +19,23 @@ write_items-requires-clause-room c =
     let p = c.self.inside.pattern in
     let room : length c.args.line.now.bytes + longest p ≤ c.args.line.now.capacity =
     subst (λ (v : FormatterView). length c.args.line.now.bytes + longest v.pattern ≤ c.args.line.now.capacity) (sym c.self.view_is) c.requires.room in
-    rw (c.items-2.ensures, c.text_limit.ensures.value)
-    (first_fit p.text_limit p.items c.count_lasting-count.result (length c.args.line.now.bytes) c.args.line.now.capacity room)
+    rw (c.items.ensures, c.text_limit.ensures.value)
+    (first_fit p.text_limit p.items c.count_lasting-count.result c.self.inside.from (length c.args.line.now.bytes) c.args.line.now.capacity room)
 
 pub invariant_of-self : goal.invariant_of-self
 invariant_of-self c =
     let i = c.self.inside in
-    let is = i.pattern.items in
+    let is = take i.from i.pattern.items in
     let count = c.count_lasting-count.result in
     let s = shown_by c.facts_of-facts.result in
-    let within : count ≤ length is = subst (λ (l : List Item). count ≤ length l) c.items.ensures c.count_lasting-count.ensures.within in
-    let last : Last (take count is) = subst (λ (l : List Item). Last (take count l)) c.items.ensures c.count_lasting-count.ensures.all in
+    let within : count ≤ length is = subst (λ (l : List Item). count ≤ length (take i.from l)) c.items.ensures c.count_lasting-count.ensures.within in
+    let last : Last (take count is) = subst (λ (l : List Item). Last (take count (take i.from l))) c.items.ensures c.count_lasting-count.ensures.all in
     let written : c.write_items.new.line ≡ appended c.args.line.now (flat_map (item_text s) (take count is)) =
-    subst (λ (l : List Item). c.write_items.new.line ≡ appended c.args.line.now (flat_map (item_text s) (take count l)))
-    c.items-2.ensures c.write_items.ensures.written in (
+    subst (λ (l : List Item). c.write_items.new.line ≡ appended c.args.line.now (flat_map (item_text s) (take count (take i.from l))))
+    c.items.ensures c.write_items.ensures.written in (
       c.self.invariant.0,
       c.self.invariant.1,
+      c.self.invariant.2,
       elim c.match-try_extend_from_slice.branch [
         | in-Ok w ↦
             let more = take (length c.as_slice.result.now - c.len-start.result) (drop c.len-start.result c.as_slice.result.now) in
@@ -50,4 +51,5 @@ invariant_of-self c =
             subst (λ (n : ℕ). AreFirst is i.civil n c.try_extend_from_slice.new.self.items) (sym w.self-is)
             (omega arith, (λ k d short. absurd (omega arith)), ap (λ v. v.items) w.in-Err.ensures.err ∙ c.clear.ensures)
       ],
+      c.self.invariant.4,
     )

@@ -1,4 +1,4 @@
-use Rattle.std.proofs.Common.{◌≡◌, ◌∙◌, false, true, not, nat_eq, ℕ, ℤ, pos, ◌+ℤ◌, ap, arith, refl, sym, subst, unsigned_abs, FitsSigned, w32, w64, rules}
+use Rattle.std.proofs.Common.{◌≡◌, ◌∙◌, false, true, not, nat_eq, ℕ, ℤ, pos, ◌≤◌, ◌+ℤ◌, ap, arith, drop, length, take, refl, sym, subst, unsigned_abs, FitsSigned, w32, w64, rules}
 use Rattle.std.specs.Int.{int_div_euclid, int_rem_euclid}
 use Rattle.std.proofs.lemmas.Int.{to_z-of_z}
 use Rattle.std.proofs.lemmas.Bool.Decides.{nat_tests}
@@ -6,6 +6,7 @@ use Rattle.jiff.specs.Words.{civil_seconds}
 use Rattle.alog_format.specs.declared.formatter.Formatter.TheInside.{Inside}
 use Rattle.alog_format.specs.Civil.{fields, offset_seconds, with_nanosecond}
 use Rattle.alog_format.specs.Lasting.{AreFirst, FormatterView}
+use Rattle.alog_format.specs.Naming.{Remembers}
 use Rattle.alog_format.proofs.Seconds.{rest_is, seconds_are, shown_in}
 use Rattle.alog_format.proofs.formatter.Formatter.show.Goals as goal
 use Rattle.alog_format.proofs.formatter.Formatter.show.Goals.{then-second-self, else-second-self, then-offset-self, else-offset-self}
@@ -17,7 +18,9 @@ record Knows (offset : ℤ) (second : ℤ) (o : Inside) (i : Inside) : Type 0 wh
   second_is : i.second ≡ second
   in_second : civil_seconds i.at ≡ i.second +ℤ i.offset
   shows : i.civil ≡ with_nanosecond i.civil.nanosecond (fields i.offset i.at)
-  first : AreFirst i.pattern.items i.civil i.count i.first.items
+  within : i.from ≤ length i.pattern.items
+  first : AreFirst (take i.from i.pattern.items) i.civil i.count i.first.items
+  named : Remembers (drop i.from i.pattern.items) i.naming
 
 same_numbers : (a b : ℕ) → not (nat_eq a b) ≡ false → a ≡ b
 same_numbers a b h = grind (arith, nat_tests)
@@ -49,16 +52,20 @@ knows c =
             offset = c.offset_seconds-offset.result;
             at = at;
             civil = w.fields_of-self-inside.result;
+            from = c.self.inside.from;
             count = 0;
             first = w.clear.new.self;
             is_fresh = true;
+            naming = c.self.inside.naming;
           }) = record {
             pattern_is = refl;
             offset_is = refl;
             second_is = refl;
             in_second = seconds_are c.offset_seconds-offset.result c.args.time c.div_euclid-second.result at shown divided;
             shows = rw (simp to_z-of_z at w.fields_of-self-inside.ensures) refl;
+            within = c.self.invariant.2;
             first = (omega arith, (λ k d short. absurd (omega arith)), w.clear.ensures);
+            named = c.self.invariant.4;
           } in
           subst Here (sym (simp to_z-of_z at w.self-inside-is)) now
       | else-offset-self w ↦
@@ -69,7 +76,9 @@ knows c =
             second_is = same.1;
             in_second = c.self.invariant.0;
             shows = c.self.invariant.1;
-            first = c.self.invariant.2;
+            within = c.self.invariant.2;
+            first = c.self.invariant.3;
+            named = c.self.invariant.4;
           } in
           subst Here (sym w.self-inside-is) now
     ]
@@ -77,7 +86,7 @@ knows c =
 pub invariant_of-self : goal.invariant_of-self
 invariant_of-self c =
     let k = knows c in
-    (k.in_second, ap (with_nanosecond c.unsigned_abs.result) k.shows, k.first)
+    (k.in_second, ap (with_nanosecond c.unsigned_abs.result) k.shows, k.within, k.first, k.named)
 
 pub returns-clause-same : goal.returns-clause-same
 returns-clause-same c = (knows c).pattern_is ∙ ap (λ (v : FormatterView). v.pattern) c.self.view_is
