@@ -48,6 +48,13 @@
 #define ALOG_CAST(type, value) ((type)(value))
 #endif
 
+/* what the library exports throws nothing */
+#ifdef __cplusplus
+#define ALOG_NOEXCEPT noexcept
+#else
+#define ALOG_NOEXCEPT
+#endif
+
 #include "alog_records.h"
 
 #ifdef __cplusplus
@@ -193,29 +200,29 @@ typedef struct alog_source {
 enum { ALOG_TEXT_MAX = 8192, ALOG_AREA = 131072, ALOG_NAMES_MAX = 16640 };
 
 /* What the library exports. A slice is a pointer, which may not be null, and a length. Use the functions below, which test that. */
-uint32_t alog_c_found(alog_files *files, const char *name, size_t name_length, uint64_t size);
-uint32_t alog_c_file_names(const char *document, size_t document_length, char *to, size_t room, size_t *length);
-uint32_t alog_c_queue_places(const char *document, size_t document_length, size_t *places);
+uint32_t alog_c_found(alog_files *files, const char *name, size_t name_length, uint64_t size) ALOG_NOEXCEPT;
+uint32_t alog_c_file_names(const char *document, size_t document_length, char *to, size_t room, size_t *length) ALOG_NOEXCEPT;
+uint32_t alog_c_queue_places(const char *document, size_t document_length, size_t *places) ALOG_NOEXCEPT;
 uint32_t alog_c_open(alog_pool *pool, alog_files *files, const char *document, size_t document_length, size_t producers, size_t areas,
-                     char *told, size_t told_room, size_t *told_length);
-uint32_t alog_c_take(alog_files *files, char *to, size_t room, size_t *length);
-uint32_t alog_c_close(alog_files *files);
-uint32_t alog_c_producer(alog_pool *pool, alog_producer *producer);
-uint32_t alog_c_worker(alog_pool *pool, alog_worker *worker);
-uint32_t alog_c_find(void *at, const char *name, size_t name_length, uint32_t *logger);
-uint32_t alog_c_set_level(void *at, uint32_t logger, uint32_t level);
-uint32_t alog_c_is_on(void *at, uint32_t logger, uint32_t level);
+                     char *told, size_t told_room, size_t *told_length) ALOG_NOEXCEPT;
+uint32_t alog_c_take(alog_files *files, char *to, size_t room, size_t *length) ALOG_NOEXCEPT;
+uint32_t alog_c_close(alog_files *files) ALOG_NOEXCEPT;
+uint32_t alog_c_producer(alog_pool *pool, alog_producer *producer) ALOG_NOEXCEPT;
+uint32_t alog_c_worker(alog_pool *pool, alog_worker *worker) ALOG_NOEXCEPT;
+uint32_t alog_c_find(void *at, const char *name, size_t name_length, uint32_t *logger) ALOG_NOEXCEPT;
+uint32_t alog_c_set_level(void *at, uint32_t logger, uint32_t level) ALOG_NOEXCEPT;
+uint32_t alog_c_is_on(void *at, uint32_t logger, uint32_t level) ALOG_NOEXCEPT;
 uint32_t alog_c_log(alog_producer *producer, uint32_t logger, uint32_t level, int64_t time, const char *text, size_t length,
-                    uint64_t *ticket);
+                    uint64_t *ticket) ALOG_NOEXCEPT;
 uint32_t alog_c_log_source(alog_producer *producer, uint32_t logger, uint32_t level, int64_t time, const char *text, size_t length,
                            const char *file, size_t file_length, uint32_t line, const char *function, size_t function_length,
-                           uint64_t *ticket);
-uint32_t alog_c_flush(alog_producer *producer, uint32_t logger, uint64_t *ticket);
-uint32_t alog_c_dump(alog_producer *producer, uint32_t logger, int64_t time, size_t *posts);
-uint32_t alog_c_work(alog_worker *worker, size_t most, size_t *items);
-uint32_t alog_c_faults(alog_worker *worker, uint64_t *faults);
-uint32_t alog_c_give(void *part);
-uint32_t alog_c_shutdown(alog_pool *pool, alog_report *report);
+                           uint64_t *ticket) ALOG_NOEXCEPT;
+uint32_t alog_c_flush(alog_producer *producer, uint32_t logger, uint64_t *ticket) ALOG_NOEXCEPT;
+uint32_t alog_c_dump(alog_producer *producer, uint32_t logger, int64_t time, size_t *posts) ALOG_NOEXCEPT;
+uint32_t alog_c_work(alog_worker *worker, size_t most, size_t *items) ALOG_NOEXCEPT;
+uint32_t alog_c_faults(alog_worker *worker, uint64_t *faults) ALOG_NOEXCEPT;
+uint32_t alog_c_give(void *part) ALOG_NOEXCEPT;
+uint32_t alog_c_shutdown(alog_pool *pool, alog_report *report) ALOG_NOEXCEPT;
 
 /* The answer of this number. */
 static inline enum alog_answer alog_answer_of(uint32_t number)
@@ -334,12 +341,16 @@ static inline enum alog_answer alog_log(alog_producer *producer, uint32_t logger
                                         size_t length, uint64_t *ticket)
 {
     uint64_t own = 0;
-    if (producer == NULL || (text == NULL && length > 0))
+    if (text == NULL) {
+        if (length > 0)
+            return ALOG_NULL;
+        text = "";
+    }
+    if (producer == NULL)
         return ALOG_NULL;
     if (length > ALOG_TEXT_MAX)
         return ALOG_TEXT_TOO_LONG;
-    return alog_answer_of(
-        alog_c_log(producer, logger, level, time, text == NULL ? "" : text, length, ticket == NULL ? &own : ticket));
+    return alog_answer_of(alog_c_log(producer, logger, level, time, text, length, ticket == NULL ? &own : ticket));
 }
 
 /* Logs a text with where it comes from. */

@@ -46,22 +46,31 @@ class error : public std::runtime_error {
 // Whether an answer is a refusal, and no account of what became of a message.
 inline bool is_refusal(alog_answer answer) { return answer >= ALOG_NO_THREAD; }
 
-// Throws what an answer says, where it is a refusal, with more words where there are some. (No text is made before that: each log by a sink comes here.)
+// Throws what a refusal says, with more words where there are some.
+[[noreturn]] ALOG_RARE inline void throw_refusal(alog_answer answer, const char *more) {
+    throw error(answer, std::string(alog_says(answer)) + (*more == 0 ? "" : " ") + more);
+}
+
+// Throws what an answer says, where it is a refusal. (No text is made before that: each log by a sink comes here.)
 inline void expect(alog_answer answer, const char *more = "") {
     if (is_refusal(answer))
-        throw error(answer, std::string(alog_says(answer)) + (*more == 0 ? "" : " ") + more);
+        throw_refusal(answer, more);
 }
 
 inline void expect(alog_answer answer, const std::string &more) { expect(answer, more.c_str()); }
 
+// Posts a message without its source, and waits for room.
+ALOG_RARE inline alog_answer post_bare(alog_client &client, const alog_message &it) {
+    alog_message bare = it;
+    bare.source = nullptr;
+    return alog_post_wait(&client, &bare);
+}
+
 // Posts a message and waits for room: without its source where that is what is refused, as one that is too long or has no names.
-inline alog_answer post(alog_client &client, alog_message &it) {
-    alog_answer answer = alog_post_wait(&client, &it);
-    if (it.source != nullptr && (answer == ALOG_SOURCE_TOO_LONG || answer == ALOG_NOT_UTF8 || answer == ALOG_NULL)) {
-        it.source = nullptr;
-        answer = alog_post_wait(&client, &it);
-    }
-    return answer;
+inline alog_answer post(alog_client &client, const alog_message &it) {
+    const alog_answer answer = alog_post_wait(&client, &it);
+    const bool may_be_source = answer == ALOG_SOURCE_TOO_LONG || answer == ALOG_NOT_UTF8 || answer == ALOG_NULL;
+    return may_be_source && it.source != nullptr ? post_bare(client, it) : answer;
 }
 
 class host;
@@ -133,10 +142,8 @@ class host {
     // Calls this with the client of this thread, which is opened at its first use; where the thread ends, and has none any more, with one that
     // is lent for the call. Throws an error where there is none.
     template <typename Call> alog_answer with_client(const Call &call) {
-        if (!is_over())
-            return call(mine());
-        const loan own(*this);
-        return call(own.one.client);
+        alog_client *const own = mine();
+        return own != nullptr ? call(*own) : with_another(call);
     }
 
   private:
@@ -204,52 +211,54 @@ class host {
         std::weak_ptr<lot> from;
         const lot *at;
         apart *one;
-        std::unique_ptr<lease> next;
+        lease *next;
     };
 
-    // The leases of a thread, one behind the other: a list that is whole while memory for one more is taken, whose handler may log.
-    struct lease_list {
-        std::unique_ptr<lease> first;
+    // The first lease of this thread, with the others behind it: a list that is whole while memory for one more is taken, whose handler may log. The
+    // pointer has no destructor, and so is there to the thread's end; so is whether the thread is over, which has no leases any more.
+    static lease *&leases() {
+        static thread_local lease *first = nullptr;
+        return first;
+    }
 
-        ~lease_list() {
-            is_over() = true;
-            for (; first != nullptr; drop(first))
-                if (const std::shared_ptr<lot> from = first->from.lock())
-                    from->take_back(first->one, 0);
-        }
-
-        static void drop(std::unique_ptr<lease> &it) {
-            std::unique_ptr<lease> next = std::move(it->next);
-            it = std::move(next);
-        }
-
-        // Lets go of those whose host has ended.
-        void tidy() {
-            for (std::unique_ptr<lease> *at = &first; *at != nullptr;) {
-                if ((*at)->from.expired())
-                    drop(*at);
-                else
-                    at = &(*at)->next;
-            }
-        }
-    };
-
-    // Whether the list of this thread is destroyed; it has no destructor of its own, and so is there to the thread's end.
     static bool &is_over() {
         static thread_local bool over = false;
         return over;
     }
 
-    static lease_list &leases() {
-        static thread_local lease_list list;
-        return list;
+    // Takes one out of the list.
+    static std::unique_ptr<lease> taken(lease *&at) {
+        std::unique_ptr<lease> it(at);
+        at = it->next;
+        return it;
     }
+
+    // Lets go of those whose host has ended.
+    static void tidy() {
+        for (lease **at = &leases(); *at != nullptr;) {
+            if ((*at)->from.expired())
+                taken(*at);
+            else
+                at = &(*at)->next;
+        }
+    }
+
+    // Gives back the clients of a thread when that ends, each when it is in the list no more, since what is let go of here may log.
+    struct thread_end {
+        ~thread_end() {
+            is_over() = true;
+            while (leases() != nullptr) {
+                const std::unique_ptr<lease> it = taken(leases());
+                if (const std::shared_ptr<lot> from = it->from.lock())
+                    from->take_back(it->one, 0);
+            }
+        }
+    };
 
     // In a child of a fork its thread has no client any more: what it logs by a host of its parent, as in a destructor, is refused.
     static void forget() {
-        if (!is_over())
-            while (leases().first != nullptr)
-                lease_list::drop(leases().first);
+        while (leases() != nullptr)
+            taken(leases());
     }
 
     // A client for one call.
@@ -285,23 +294,31 @@ class host {
         return answer;
     }
 
-    // The client of this thread.
-    alog_client &mine() {
-        for (const lease *it = leases().first.get(); it != nullptr; it = it->next.get())
+    // Calls this where this thread has no client: with one that it has from then on, or where it is over with one that is lent for the call.
+    template <typename Call> ALOG_RARE alog_answer with_another(const Call &call) {
+        if (!is_over())
+            return call(lend());
+        const loan own(*this);
+        return call(own.one.client);
+    }
+
+    // The client of this thread, or null where it has none.
+    alog_client *mine() {
+        for (const lease *it = leases(); it != nullptr; it = it->next)
             if (it->at == lot_.get())
-                return it->one->client;
-        return lend();
+                return &it->one->client;
+        return nullptr;
     }
 
     // One for this thread, until it ends.
     alog_client &lend() {
-        lease_list &own = leases();
-        own.tidy();
+        static thread_local const thread_end end{};
+        tidy();
         std::unique_ptr<lease> made(new lease{lot_, lot_.get(), nullptr, nullptr});
         made->one = &take(0);
-        made->next = std::move(own.first);
-        own.first = std::move(made);
-        return own.first->one->client;
+        made->next = leases();
+        leases() = made.release();
+        return leases()->one->client;
     }
 
     // One that no thread has, or a new one; counted where it is a loan.

@@ -120,7 +120,7 @@ class logger {
     template <typename... Args> alog_answer log_as(const alog_source *from, alog_level level, fmt::string_view text, Args &...args) const noexcept {
         alog_answer answer;
         try {
-            answer = host_->with_client([&](alog_client &client) {
+            answer = host_->with_client([this, from, level, text, &args...](alog_client &client) {
                 const alog_answer is_on = alog_is_on(&client.producer, number_, level);
                 return is_on == ALOG_DONE ? write(client, from, level, text, fmt::make_format_args(args...)) : is_on;
             });

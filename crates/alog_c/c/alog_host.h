@@ -346,6 +346,13 @@ static inline enum alog_answer alog_client_close(alog_client *client)
     return answer;
 }
 
+/* Logs a message that has a source: apart from its callers, since most messages have none. */
+ALOG_APART
+static enum alog_answer alog_log_message(alog_producer *producer, const alog_message *it)
+{
+    return alog_log_source(producer, it->logger, it->level, it->time, it->text, it->length, it->source, NULL);
+}
+
 /* Logs a message, and never waits: where the queue is full and the logger blocks, it answers ALOG_WOULD_BLOCK. */
 static inline enum alog_answer alog_post_now(alog_client *client, const alog_message *it)
 {
@@ -357,24 +364,23 @@ static inline enum alog_answer alog_post_now(alog_client *client, const alog_mes
     if (it->source == NULL)
         answer = alog_log(&client->producer, it->logger, it->level, it->time, it->text, it->length, NULL);
     else
-        answer = alog_log_source(&client->producer, it->logger, it->level, it->time, it->text, it->length, it->source, NULL);
+        answer = alog_log_message(&client->producer, it);
     if (answer == ALOG_DONE)
         alog_bell_ring(&client->host->work, 1);
     return answer;
 }
 
-/* Logs a message, and waits where the queue is full and the logger blocks, until a worker has made room: it never answers
-   ALOG_WOULD_BLOCK. */
-static inline enum alog_answer alog_post_wait(alog_client *client, const alog_message *message)
+/* Logs a message for which there was no room at the first try: it tries again, and then waits for room. */
+ALOG_RARE
+static enum alog_answer alog_post_again(alog_client *client, const alog_message *message)
 {
     enum alog_answer answer = ALOG_WOULD_BLOCK;
-    alog_bell *room;
+    alog_bell *room = &client->host->room;
     int tries;
-    for (tries = 0; answer == ALOG_WOULD_BLOCK && tries < ALOG_TRIES; tries++)
+    for (tries = 1; answer == ALOG_WOULD_BLOCK && tries < ALOG_TRIES; tries++)
         answer = alog_post_now(client, message);
     if (answer != ALOG_WOULD_BLOCK)
         return answer;
-    room = &client->host->room;
     for (;;) {
         alog_bell_enter(room);
         answer = alog_post_now(client, message);
@@ -387,6 +393,14 @@ static inline enum alog_answer alog_post_wait(alog_client *client, const alog_me
     if (answer != ALOG_DONE)
         alog_bell_ring(room, 1);
     return answer;
+}
+
+/* Logs a message, and waits where the queue is full and the logger blocks, until a worker has made room: it never answers
+   ALOG_WOULD_BLOCK. */
+static inline enum alog_answer alog_post_wait(alog_client *client, const alog_message *message)
+{
+    const enum alog_answer answer = alog_post_now(client, message);
+    return answer == ALOG_WOULD_BLOCK ? alog_post_again(client, message) : answer;
 }
 
 /* Logs a text at the time of the call, and never waits. */

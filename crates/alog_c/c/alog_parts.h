@@ -31,6 +31,16 @@
 #define ALOG_PRINTS(words, values)
 #endif
 
+/* a function that is kept out of its callers, so that what they do most times is short; and one that is called rarely, too. A program may use none
+   of them (in C gcc takes no `inline` beside that). */
+#ifdef __GNUC__
+#define ALOG_APART __attribute__((__noinline__, __unused__))
+#define ALOG_RARE __attribute__((__noinline__, __unused__, __cold__))
+#else
+#define ALOG_APART
+#define ALOG_RARE
+#endif
+
 /* tells the processor that a thread only waits (the library is for x86-64) */
 #ifdef __x86_64__
 #define ALOG_PAUSE() __builtin_ia32_pause()
@@ -241,12 +251,11 @@ static inline void alog_bell_leave(alog_bell *bell)
     pthread_mutex_unlock(&bell->lock);
 }
 
-/* Wakes up to so many of those that sleep or are about to: where there are none, it is one read. */
-static inline void alog_bell_ring(alog_bell *bell, uint32_t most)
+/* Wakes up to so many of those that sleep or are about to, under the lock. */
+ALOG_RARE
+static void alog_bell_wake(alog_bell *bell, uint32_t most)
 {
     uint32_t count;
-    if (__atomic_load_n(&bell->sleepers, __ATOMIC_SEQ_CST) == 0)
-        return;
     pthread_mutex_lock(&bell->lock);
     count = bell->sleepers < most ? bell->sleepers : most;
     __atomic_sub_fetch(&bell->sleepers, count, __ATOMIC_SEQ_CST);
@@ -256,6 +265,13 @@ static inline void alog_bell_ring(alog_bell *bell, uint32_t most)
     else if (count > 1)
         pthread_cond_broadcast(&bell->rung);
     pthread_mutex_unlock(&bell->lock);
+}
+
+/* The same: where there are none, it is one read. */
+static inline void alog_bell_ring(alog_bell *bell, uint32_t most)
+{
+    if (__atomic_load_n(&bell->sleepers, __ATOMIC_SEQ_CST) != 0)
+        alog_bell_wake(bell, most);
 }
 
 /* Makes room for others: it yields, and behind many yields in a row it rests. */

@@ -40,16 +40,18 @@ class spdlog_sink : public spdlog::sinks::sink {
 
     void log(const spdlog::details::log_msg &message) override {
         const std::chrono::nanoseconds time = message.time.time_since_epoch();
-        const spdlog::source_loc &place = message.source;
-        const char *file = place.filename == nullptr ? "" : place.filename, *function = place.funcname == nullptr ? "" : place.funcname;
-        const alog_source source = {file, static_cast<std::uint32_t>(place.line), function};
+        alog_source source;
+        const alog_source *from = nullptr;
+        if (!message.source.empty()) {
+            source = source_of(message.source);
+            from = &source;
+        }
         const alog_level level = static_cast<alog_level>(message.level);
-        const alog_source *from = place.empty() ? nullptr : &source;
-        alog_message it = {logger_, level, time.count(), message.payload.data(), message.payload.size(), from};
+        const alog_message it = {logger_, level, time.count(), message.payload.data(), message.payload.size(), from};
         try {
             alog::expect(host_->with_client([&it](alog_client &client) { return alog::post(client, it); }));
         } catch (...) {
-            if (host_->refuse(logger_, level))
+            if (host_->refuse(it.logger, it.level))
                 throw;
         }
     }
@@ -65,6 +67,11 @@ class spdlog_sink : public spdlog::sinks::sink {
     void set_formatter(std::unique_ptr<spdlog::formatter>) override {}
 
   private:
+    static alog_source source_of(const spdlog::source_loc &place) {
+        const char *file = place.filename == nullptr ? "" : place.filename, *function = place.funcname == nullptr ? "" : place.funcname;
+        return {file, static_cast<std::uint32_t>(place.line), function};
+    }
+
     const std::shared_ptr<host> host_;
     const std::uint32_t logger_;
 };

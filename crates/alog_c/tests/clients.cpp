@@ -15,6 +15,9 @@ namespace {
 // Which allocation of this thread fails next, from 0 on; none where it is less.
 thread_local int failing = -1;
 
+// What this thread calls once behind the next memory that it lets go of.
+thread_local void (*behind_release)() = nullptr;
+
 void *allocated(std::size_t size) {
     for (;;) {
         void *const got = failing-- == 0 ? nullptr : std::malloc(size > 0 ? size : 1);
@@ -27,12 +30,20 @@ void *allocated(std::size_t size) {
     }
 }
 
+void release(void *at) {
+    void (*const call)() = behind_release;
+    behind_release = nullptr;
+    std::free(at);
+    if (call != nullptr)
+        call();
+}
+
 } // namespace
 
 // (where one of them is inlined and the other is not, gcc takes them for two that do not match)
 __attribute__((noinline)) void *operator new(std::size_t size) { return allocated(size); }
-__attribute__((noinline)) void operator delete(void *at) noexcept { std::free(at); }
-__attribute__((noinline)) void operator delete(void *at, std::size_t) noexcept { std::free(at); }
+__attribute__((noinline)) void operator delete(void *at) noexcept { release(at); }
+__attribute__((noinline)) void operator delete(void *at, std::size_t) noexcept { release(at); }
 #endif
 
 // A value that cannot be formatted for want of memory.
@@ -121,6 +132,47 @@ void handlers_of_memory(const std::string &folder) {
         EXPECT(number < 20, 1);
     }
     EXPECT(handled, 1);
+}
+
+alog::host *of_one_client;
+const alog::logger *by_one_client;
+
+// Logs while the one client is another thread's.
+void log_beside_another() {
+    std::atomic<bool> has_client{false}, may_end{false};
+    std::thread other([&has_client, &may_end] {
+        of_one_client->with_client([&has_client, &may_end](alog_client &) {
+            for (has_client = true; !may_end;)
+                std::this_thread::yield();
+            return ALOG_DONE;
+        });
+    });
+    while (!has_client)
+        std::this_thread::yield();
+    EXPECT(by_one_client->info("late"), ALOG_TOO_MANY);
+    may_end = true;
+    other.join();
+}
+
+// What its thread lets go of next is what pointed to its client.
+struct last {
+    const bool is_armed;
+    ~last() { behind_release = is_armed ? log_beside_another : nullptr; }
+};
+
+// What logs while its thread lets go of its client has that no more: another thread may have it by then.
+void releases_that_log(const std::string &folder) {
+    const auto host = alog::make_host(config, folder, alog_options{1, 1, 0, 0});
+    const alog::logger net(host, "net");
+    of_one_client = host.get();
+    by_one_client = &net;
+    std::thread([&net] {
+        EXPECT(net.info("x"), ALOG_DONE);
+        static thread_local const last own{true};
+        EXPECT(own.is_armed, 1);
+    }).join();
+    EXPECT(host->refused(), 1);
+    EXPECT(host->stop().handled, 1);
 }
 #endif
 
@@ -296,6 +348,7 @@ int main(int argc, char **argv) {
     calls_beside_stop(argv[1]);
 #ifndef HAS_NO_NEW
     handlers_of_memory(argv[1]);
+    releases_that_log(argv[1]);
 #endif
     refusals(argv[1]);
     calls_with_clients(argv[1]);
