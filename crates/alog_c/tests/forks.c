@@ -3,6 +3,7 @@
 #include "alog_host.h"
 #include "trial.h"
 
+#include <sched.h>
 #include <signal.h>
 #include <sys/wait.h>
 
@@ -25,6 +26,14 @@ static void stop(uint64_t handled)
     EXPECT(alog_stop(&host, &report), ALOG_DONE);
     EXPECT(report.handled, handled);
     EXPECT(host.failures, 0);
+}
+
+/* Waits until the worker sleeps. A child has the locks as they are at its fork, and the memory of some sanitizers looks at no fork: where the
+   worker is in malloc then, which it is while it starts, a child that takes memory waits for ever. */
+static void settle(void)
+{
+    while (__atomic_load_n(&host.work.sleepers, __ATOMIC_SEQ_CST) == 0)
+        sched_yield();
 }
 
 /* Whether a child starts and stops a host of its own. */
@@ -57,6 +66,7 @@ static void refused(const char *folder)
     pid_t child;
     start(folder);
     EXPECT(alog_log_wait(&client, 0, ALOG_INFO, "before", 6), ALOG_DONE);
+    settle();
     child = fork();
     if (child == 0)
         _exit(is_refused(folder) && has_own(folder) ? 0 : 1);
