@@ -1,0 +1,60 @@
+//! One message, which is posted, or is below its logger's level.
+use crate::setups::{has_line, setup};
+use alog_hosted::Host;
+use alog_msg::Level;
+use alog_policy::Policy;
+use alog_pool::{OpenGate, Pool, Report};
+use alog_sink::MemStore;
+use std::alloc::Global;
+use std::process::Abort;
+use test_laws::{log_alone, log_hosted};
+
+/// What `log_hosted` answers in a pool of this policy.
+fn hosted(
+    rt: &impl Abort,
+    alloc: Global,
+    policy: Policy,
+    level: Level,
+) -> Option<Report<MemStore>> {
+    let Ok(setup) = setup(alloc, policy) else {
+        panic!(rt; "no memory")
+    };
+    let Ok((hosted, host)) = Host::open(alloc, setup) else {
+        panic!(rt; "refused")
+    };
+    if hosted.loggers().len() != 1 {
+        panic!(rt; "no logger")
+    }
+    log_hosted(alloc, host, hosted, 0, level, 7, "a line")
+}
+
+/// A caller of a hosted pool gets its report where the message was posted, and none where the level hides it.
+#[test]
+fn one_message_of_a_hosted_pool(rt: HostRuntime) {
+    for policy in [Policy::Block, Policy::DiscardNew, Policy::OverrunOldest] {
+        let report = hosted(&rt, rt.alloc(), policy, Level::Info);
+        assert!(rt; has_line(&report, b"a line\n"), "{policy:?}");
+    }
+    assert!(rt; hosted(&rt, rt.alloc(), Policy::Block, Level::Debug).is_none());
+}
+
+/// A caller of a pool with threads gets its report where the message was posted, and none where the level hides it.
+#[test]
+fn one_message_of_a_pool(rt: HostRuntime) {
+    for level in [Level::Info, Level::Debug] {
+        let Ok(setup) = setup(rt.alloc(), Policy::Block) else {
+            panic!(rt; "no memory")
+        };
+        let Ok(pool) = Pool::start(&rt, rt.alloc(), setup, OpenGate) else {
+            panic!(rt; "refused")
+        };
+        if pool.loggers().len() != 1 {
+            panic!(rt; "no logger")
+        }
+        let report = log_alone(&rt, rt.alloc(), pool, 0, level, 7, "a line");
+        assert!(rt;
+            has_line(&report, b"a line\n") == (level == Level::Info),
+            "{level:?}"
+        );
+    }
+}
