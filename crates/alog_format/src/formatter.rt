@@ -9,7 +9,7 @@ use crate::context::{Context, Zone};
 use crate::lasting::count_lasting;
 use crate::line_buf::LineBuf;
 use crate::lines::{facts_of, put, write_behind, write_items, write_line};
-use crate::naming::{Naming, start_of_names};
+use crate::naming::{Naming, SLOTS, no_names, start_of_names, write_named};
 use alog_msg::{LOGGER_NAME_MAX, Message};
 use alog_pattern::Pattern;
 use arrayvec::ArrayVec;
@@ -44,15 +44,15 @@ pub fn format(
 /// The most bytes of a line that a formatter remembers.
 const FIRST_MAX: usize = 64;
 
-/// Appends the lines of a pattern as `format` does, and remembers two things of the last one.
+/// Appends the lines of a pattern as `format` does, and remembers what comes again.
 ///
-/// The first is its second, as spdlog's `pattern_formatter` does: the date and the time of day are worked out again only for a
-/// message of another second, or where the clock is at another offset. From the second line of a second on it remembers the
-/// text of the first items too, as far as it is the same throughout a second and has at most 64 bytes.
+/// Of the last line it remembers the second, as spdlog's `pattern_formatter` does: the date and the time of day are worked
+/// out again only for a message of another second, or where the clock is at another offset. From the second line of a second
+/// on it remembers the text of the first items too, as far as it is the same throughout a second and has at most 64 bytes.
 ///
-/// The other is its logger's name with its level. From the second line in a row with the same two on it remembers the
-/// text of the first run of items that hang on these alone, if one of the run shows the name or the level, and the text
-/// has at most 128 bytes: in `%e] [%n] [%l] %v` that of `] [%n] [%l] `.
+/// For some pairs of a logger's name and a level it remembers the text of a run of items, as `] [%n] [%l] `: the first run
+/// of those that hang on the two alone in which one shows the name or the level, if the text has at most 128 bytes. It has
+/// 16 slots; a slot's pair is that of its last line, and from the second line in a row on its text is remembered.
 ///
 /// The tests `remembers_a_second` and `remembers_a_name` of `test_lines` show one.
 #[derive(Debug, Drop)]
@@ -74,12 +74,12 @@ pub struct Formatter {
     first: ArrayVec<u8, FIRST_MAX>,
     /// Whether the next line of that second is its second one, for which the first items are worth remembering.
     is_fresh: bool,
-    /// What is remembered of the items from the run on.
-    naming: Naming,
+    /// What is remembered of the items from the run on, for some pairs of a name and a level.
+    names: [Naming; SLOTS],
 }
 
 impl Model for Formatter {
-    ghost use Rattle.std.specs.Prelude.{◌≡◌, ◌≤◌, ◌+ℤ◌, drop, length, take};
+    ghost use Rattle.std.specs.Prelude.{◌≡◌, ◌≤◌, ◌+ℤ◌, All, drop, length, take};
     ghost use Rattle.jiff.specs.Words.{civil_seconds};
     ghost use Rattle.alog_format.specs.Civil.{fields, with_nanosecond};
     ghost use Rattle.alog_format.specs.Lasting.{AreFirst, FormatterView};
@@ -91,7 +91,7 @@ impl Model for Formatter {
 
     ghost invariant = { λ f. (civil_seconds f.at ≡ f.second +ℤ f.offset)
         × (f.civil ≡ with_nanosecond f.civil.nanosecond (fields f.offset f.at)) × (f.from ≤ length f.pattern.items)
-        × AreFirst (take f.from f.pattern.items) f.civil f.count f.first.items × Remembers (drop f.from f.pattern.items) f.naming };
+        × AreFirst (take f.from f.pattern.items) f.civil f.count f.first.items × All (Remembers (drop f.from f.pattern.items)) f.names };
 }
 
 impl Formatter {
@@ -113,7 +113,7 @@ impl Formatter {
             count: 0,
             first: ArrayVec::new(),
             is_fresh: true,
-            naming: Naming::new(),
+            names: no_names(),
         }
     }
 
@@ -151,8 +151,13 @@ impl Formatter {
             text_limit,
             &facts,
         );
-        self.naming
-            .write(line, &items[self.from..], text_limit, &facts);
+        write_named(
+            &mut self.names,
+            line,
+            &items[self.from..],
+            text_limit,
+            &facts,
+        );
         put(line, b"\n");
     }
 

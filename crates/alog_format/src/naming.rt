@@ -9,20 +9,21 @@ ghost use Rattle.alog_format.specs.Naming as words;
 use crate::flag_texts::Facts;
 use crate::line_buf::LineBuf;
 use crate::lines::{write_behind, write_items};
-use alog_msg::{LOGGER_NAME_MAX, Level};
+use alog_msg::{LOGGER_NAME_MAX, Level, Message};
 use alog_pattern::{Flag, Item};
 use arrayvec::ArrayVec;
+use std::array;
 
 /// The most bytes of a line that are remembered for a name and a level.
 const NAMED_MAX: usize = 128;
 
-/// Appends items of which the first hang on name and level alone, and remembers the text of those for the name and the level
-/// of the last line.
+/// A slot: appends items of which the first hang on name and level alone, and remembers the text of those for the name and
+/// the level of its last line.
 #[derive(Debug, Drop)]
 pub(crate) struct Naming {
-    /// The last line's name.
+    /// Its last line's name.
     pub name: ArrayVec<u8, LOGGER_NAME_MAX>,
-    /// Its level.
+    /// That line's level.
     pub level: Level,
     /// How many of the first items are remembered.
     pub count: usize,
@@ -144,6 +145,48 @@ fn are_same(these: &[u8], those: &[u8]) -> bool
         }
     }
     true
+}
+
+/// How many slots a formatter has.
+pub(crate) const SLOTS: usize = 16;
+
+/// Slots that remember nothing.
+pub(crate) fn no_names() -> [Naming; SLOTS]
+    ensures { (items : List Item) → All (words.Remembers items) result }
+{
+    array::from_fn(
+        |_|
+            ensures { (items : List Item) → words.Remembers items result }
+        { Naming::new() },
+    )
+}
+
+/// Appends the texts of items in order, as `write_items` does, by the slot of the message.
+pub(crate) fn write_named(
+    slots: &mut [Naming; SLOTS],
+    line: &mut LineBuf,
+    items: &[Item],
+    text_limit: usize,
+    facts: &Facts<'_>,
+)
+    requires showable { IsShowable text_limit (shown_by facts.now) }
+    requires room { length line.old.bytes + sum_by (item_len text_limit) items.now < line.old.capacity }
+    requires known { All (words.Remembers items.now) slots.old }
+    ensures written { line.new ≡ appended line.old (flat_map (item_text (shown_by facts.now)) items.now) }
+    ensures room_left { length line.new.bytes < line.new.capacity }
+    ensures known { All (words.Remembers items.now) slots.new }
+{
+    let slot = slot_of(facts.message);
+    slots[slot].write(line, items, text_limit, facts);
+}
+
+/// The slot of a message. A logger has a row of seven, one for each level, and rows go round: a slot may be that of more
+/// loggers and levels, so it looks at name and level itself, and any choice is right.
+fn slot_of(message: &Message) -> usize
+    ensures { result < SLOTS }
+{
+    let row = message.logger as usize % SLOTS * 7;
+    (row + usize::from(message.level.number())) % SLOTS
 }
 
 /// Where the first run of items begins that hang on name and level alone, one of which is of the name or the level. Without

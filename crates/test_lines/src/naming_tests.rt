@@ -38,10 +38,10 @@ fn write_alone(
 }
 
 /// What the line at this place says.
-fn said(place: usize, level: Level) -> Said<'static> {
+fn said(place: u32, level: Level) -> Said<'static> {
     Said {
         level,
-        time: 300_000_000 * place as i64,
+        time: 300_000_000 * i64::from(place),
         text: "text",
         ..NOTHING
     }
@@ -69,7 +69,7 @@ fn remembers_a_name(rt: HostRuntime) {
     let mut formatter = Formatter::new(compiled(&rt, b"[%n] [%l]: %v"));
     let mut line = buffer(&rt, formatter.pattern().longest());
     for (place, (name, level, text)) in NAMES.iter().enumerate() {
-        let message = message(&rt, said(place, *level));
+        let message = message(&rt, said(place as u32, *level));
         write(&rt, &mut formatter, name, &message, &mut line);
         assert!(rt; line.as_slice() == text.as_bytes(), "{text}");
     }
@@ -118,13 +118,14 @@ const PATTERNS: [&[u8]; 9] = [
     b"%S %n %M %l %H",
 ];
 
-/// Writes the lines by a formatter, each as `format` does.
-fn names_as_alone(rt: &(impl Abort + AllocGlobal), pattern: &[u8]) {
+/// Writes the lines by a formatter, each as `format` does, where the numbers of their loggers are so far apart.
+fn names_as_alone(rt: &(impl Abort + AllocGlobal), pattern: &[u8], apart: u32) {
     let mut formatter = Formatter::new(compiled(rt, pattern));
     let mut line = buffer(rt, formatter.pattern().longest());
     let mut alone = buffer(rt, formatter.pattern().longest());
     for (place, (name, level)) in LINES.iter().enumerate() {
-        let message = message(rt, said(place, *level));
+        let mut message = message(rt, said(place as u32, *level));
+        message.logger = apart.wrapping_mul(place as u32);
         write(rt, &mut formatter, name, &message, &mut line);
         write_alone(rt, formatter.pattern(), name, &message, &mut alone);
         let is_same = line.as_slice() == alone.as_slice();
@@ -135,6 +136,8 @@ fn names_as_alone(rt: &(impl Abort + AllocGlobal), pattern: &[u8]) {
 #[test]
 fn writes_any_name_after_any(rt: HostRuntime) {
     for pattern in &PATTERNS {
-        names_as_alone(&rt, pattern);
+        for apart in [0, 1, u32::MAX] {
+            names_as_alone(&rt, pattern, apart);
+        }
     }
 }

@@ -1,4 +1,4 @@
-use Rattle.std.proofs.Common.{◌≡◌, ◌∙◌, ℕ, ◌+◌, ◌-◌, ◌≤◌, ◌++◌, List, arith, ap, drop, length, length-append, refl, rules, subst, sum_by, sym, take}
+use Rattle.std.proofs.Common.{◌≡◌, ◌∙◌, ℕ, ◌+◌, ◌-◌, ◌≤◌, ◌++◌, All, List, arith, ap, drop, length, length-append, refl, rules, subst, sum_by, sym, take}
 use Rattle.std.specs.List.{flat_map}
 use Rattle.alog_pattern.specs.Compiled.{Compiled, longest}
 use Rattle.alog_pattern.specs.Length.{item_len}
@@ -35,8 +35,8 @@ write_behind-requires-clause-known c =
     first_texts s i.civil front i.count i.first.items c.facts_of-facts.ensures.at c.self.invariant.3 in
     c.as_slice.ensures.value ∙ texts ∙ ap (λ (l : List Item). flat_map (item_text s) (take i.count (take i.from l))) (sym c.items-items.ensures)
 
-pub write-requires-clause-room : goal.write-requires-clause-room
-write-requires-clause-room c =
+pub write_named-requires-clause-room : goal.write_named-requires-clause-room
+write_named-requires-clause-room c =
     let i = c.self.inside in
     let p = i.pattern in
     let s = shown_by c.facts_of-facts.result in
@@ -60,20 +60,20 @@ write-requires-clause-room c =
     ap (sum_by (item_len c.text_limit-text_limit.result)) rest ∙ ap (λ (n : ℕ). sum_by (item_len n) (drop i.from p.items)) c.text_limit-text_limit.ensures.value in
     omega (arith, fits, bytes, capacity, left)
 
-pub write-requires-clause-known : goal.write-requires-clause-known
-write-requires-clause-known c =
+pub write_named-requires-clause-known : goal.write_named-requires-clause-known
+write_named-requires-clause-known c =
     let i = c.self.inside in
     let rest : take (length c.items-items.result.now - i.from) (drop i.from c.items-items.result.now) ≡ drop i.from i.pattern.items =
     rest_is c.items-items.result.now i.from ∙ ap (drop i.from) c.items-items.ensures in
-    subst (λ (l : List Item). Remembers l i.naming) (sym rest) c.self.invariant.4
+    subst (λ (l : List Item). All (Remembers l) i.names) (sym rest) c.self.invariant.4
 
 pub invariant_of-self : goal.invariant_of-self
 invariant_of-self c =
     let i = c.self.inside in
     let rest : take (length c.items-items.result.now - i.from) (drop i.from c.items-items.result.now) ≡ drop i.from i.pattern.items =
     rest_is c.items-items.result.now i.from ∙ ap (drop i.from) c.items-items.ensures in
-    let named : Remembers (drop i.from i.pattern.items) c.write.new.self =
-    subst (λ (l : List Item). Remembers l c.write.new.self) rest c.write.ensures.known in
+    let named : All (Remembers (drop i.from i.pattern.items)) c.write_named.new.slots =
+    subst (λ (l : List Item). All (Remembers l) c.write_named.new.slots) rest c.write_named.ensures.known in
     (c.self.invariant.0, c.self.invariant.1, c.self.invariant.2, c.self.invariant.3, named)
 
 pub returns-clause-line : goal.returns-clause-line
@@ -90,13 +90,13 @@ returns-clause-line c =
     ∙ ap (λ (l : List Item). appended old (flat_map (item_text s) (take i.from l))) c.items-items.ensures in
     let rest : take (length c.items-items.result.now - i.from) (drop i.from c.items-items.result.now) ≡ drop i.from p.items =
     rest_is c.items-items.result.now i.from ∙ ap (drop i.from) c.items-items.ensures in
-    let more : c.write.new.line ≡ appended c.write_behind.new.line behind =
-    c.write.ensures.written ∙ ap (λ (l : List Item). appended c.write_behind.new.line (flat_map (item_text s) l)) rest in
-    let both : c.write.new.line ≡ appended old (front ++ behind) =
-    both_written old c.write_behind.new.line c.write.new.line front behind put more in
-    let all : c.write.new.line ≡ appended old (flat_map (item_text s) c.args.self.now.pattern.items) =
+    let more : c.write_named.new.line ≡ appended c.write_behind.new.line behind =
+    c.write_named.ensures.written ∙ ap (λ (l : List Item). appended c.write_behind.new.line (flat_map (item_text s) l)) rest in
+    let both : c.write_named.new.line ≡ appended old (front ++ behind) =
+    both_written old c.write_behind.new.line c.write_named.new.line front behind put more in
+    let all : c.write_named.new.line ≡ appended old (flat_map (item_text s) c.args.self.now.pattern.items) =
     both ∙ ap (appended old) (all_texts s p.items i.from) ∙ ap (λ (q : Compiled). appended old (flat_map (item_text s) q.items)) pattern in (
       line_text s c.args.self.now.pattern.items,
       (s, c.facts_of-facts.ensures.shown, refl),
-      line_written old c.write.new.line c.put.new.line (flat_map (item_text s) c.args.self.now.pattern.items) all c.put.ensures,
+      line_written old c.write_named.new.line c.put.new.line (flat_map (item_text s) c.args.self.now.pattern.items) all c.put.ensures,
     )

@@ -1,4 +1,4 @@
-use Rattle.std.proofs.Common.{pos, refl, rules}
+use Rattle.std.proofs.Common.{drop, pos, refl, rules}
 use Rattle.alog_format.proofs.Seconds.{seconds_are}
 use Rattle.alog_format.proofs.formatter.Formatter.new.Goals as goal
 
@@ -8,5 +8,5 @@ invariant_of-result c = (
   rw c.fields_of.ensures refl,
   search rules,
   search rules,
-  search rules,
+  c.no_names.ensures (drop c.start_of_names-from.result c.args.pattern.items),
 )

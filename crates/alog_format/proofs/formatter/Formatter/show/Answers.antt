@@ -1,4 +1,4 @@
-use Rattle.std.proofs.Common.{◌≡◌, ◌∙◌, false, true, not, nat_eq, ℕ, ℤ, pos, ◌≤◌, ◌+ℤ◌, ap, arith, drop, length, take, refl, sym, subst, unsigned_abs, FitsSigned, w32, w64, rules}
+use Rattle.std.proofs.Common.{◌≡◌, ◌∙◌, false, true, not, nat_eq, ℕ, ℤ, pos, ◌≤◌, ◌+ℤ◌, All, ap, arith, drop, length, take, refl, sym, subst, unsigned_abs, FitsSigned, w32, w64, rules}
 use Rattle.std.specs.Int.{int_div_euclid, int_rem_euclid}
 use Rattle.std.proofs.lemmas.Int.{to_z-of_z}
 use Rattle.std.proofs.lemmas.Bool.Decides.{nat_tests}
@@ -20,7 +20,7 @@ record Knows (offset : ℤ) (second : ℤ) (o : Inside) (i : Inside) : Type 0 wh
   shows : i.civil ≡ with_nanosecond i.civil.nanosecond (fields i.offset i.at)
   within : i.from ≤ length i.pattern.items
   first : AreFirst (take i.from i.pattern.items) i.civil i.count i.first.items
-  named : Remembers (drop i.from i.pattern.items) i.naming
+  named : All (Remembers (drop i.from i.pattern.items)) i.names
 
 same_numbers : (a b : ℕ) → not (nat_eq a b) ≡ false → a ≡ b
 same_numbers a b h = grind (arith, nat_tests)
@@ -56,7 +56,7 @@ knows c =
             count = 0;
             first = w.clear.new.self;
             is_fresh = true;
-            naming = c.self.inside.naming;
+            names = c.self.inside.names;
           }) = record {
             pattern_is = refl;
             offset_is = refl;
