@@ -233,14 +233,26 @@ class host {
         return it;
     }
 
+    // Lets go of a list, which is this thread's no more: what is let go of here may log, and change that.
+    static void let_go(lease *list) {
+        while (list != nullptr)
+            taken(list);
+    }
+
     // Lets go of those whose host has ended.
     static void tidy() {
+        lease *ended = nullptr;
         for (lease **at = &leases(); *at != nullptr;) {
-            if ((*at)->from.expired())
-                taken(*at);
-            else
-                at = &(*at)->next;
+            lease *const it = *at;
+            if (it->from.expired()) {
+                *at = it->next;
+                it->next = ended;
+                ended = it;
+            } else {
+                at = &it->next;
+            }
         }
+        let_go(ended);
     }
 
     // Gives back the clients of a thread when that ends, each when it is in the list no more, since what is let go of here may log.
@@ -257,8 +269,9 @@ class host {
 
     // In a child of a fork its thread has no client any more: what it logs by a host of its parent, as in a destructor, is refused.
     static void forget() {
-        while (leases() != nullptr)
-            taken(leases());
+        lease *const all = leases();
+        leases() = nullptr;
+        let_go(all);
     }
 
     // A client for one call.

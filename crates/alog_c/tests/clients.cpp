@@ -1,5 +1,5 @@
-// Clients of threads in C++: a host that ends beside others, children of a fork, a handler of operator new that logs, and what is refused and in which
-// words: clients FOLDER
+// Clients of threads in C++: a host that ends beside others, children of a fork, handlers of operator new and of operator delete that log, and what is
+// refused and in which words: clients FOLDER
 #include "alog_fmt.h"
 #include "trial.hpp"
 
@@ -174,6 +174,35 @@ void releases_that_log(const std::string &folder) {
     EXPECT(host->refused(), 1);
     EXPECT(host->stop().handled, 1);
 }
+
+std::shared_ptr<alog::host> ending;
+const alog::logger *by_new_host;
+
+// Logs by a host of which this thread has no client yet, when another thread has ended one of which it has.
+void log_behind_end() {
+    std::thread([] { ending.reset(); }).join();
+    EXPECT(by_new_host->info("late"), ALOG_DONE);
+}
+
+// What logs while its thread lets go of its client of a host that has ended may let go of others, beside it. (That is shown by a sanitizer of memory.)
+void releases_beside_ends(const std::string &folder) {
+    const std::string places[] = {folder, folder + "/ending", folder + "/new", folder + "/last"};
+    for (int i = 1; i < 4; i++)
+        EXPECT(trial_folder(places[i].c_str()), 0);
+    auto ended = alog::make_host(config, places[0], 1);
+    ending = alog::make_host(config, places[1], 1);
+    const auto first = alog::make_host(config, places[2], 1), last = alog::make_host(config, places[3], 1);
+    const alog::logger by_first(first, "net"), by_last(last, "net");
+    by_new_host = &by_first;
+    for (const auto &host : {ended, ending})
+        EXPECT(host->with_client([](alog_client &) { return ALOG_DONE; }), ALOG_DONE);
+    ended.reset();
+    behind_release = log_behind_end;
+    EXPECT(by_last.info("x"), ALOG_DONE);
+    EXPECT(ending == nullptr, 1);
+    EXPECT(first->stop().handled, 1);
+    EXPECT(last->stop().handled, 1);
+}
 #endif
 
 // What is refused, in which words, and what a source shows.
@@ -314,6 +343,28 @@ void children(const std::string &folder) {
     EXPECT(host->stop().handled, 5);
 }
 
+const alog::logger *by_parent;
+alog_answer said_in_child;
+
+// What a child logs while its thread lets go of its clients is refused, whichever host of its parent it is by.
+void children_that_release(const std::string &folder) {
+    const std::string place = folder + "/other";
+    EXPECT(trial_folder(place.c_str()), 0);
+    const auto host = alog::make_host(config, folder, 1), other = alog::make_host(config, place, 1);
+    const alog::logger net(host, "net"), of_other(other, "net");
+    by_parent = &net;
+    EXPECT(net.info("x"), ALOG_DONE);
+    EXPECT(of_other.info("x"), ALOG_DONE);
+    behind_release = [] { said_in_child = by_parent->info("late"); };
+    const pid_t child = fork();
+    if (child == 0)
+        std::_Exit(said_in_child != ALOG_NO_HANDLE);
+    behind_release = nullptr;
+    EXPECT(has_ended(child), 1);
+    EXPECT(host->stop().handled, 1);
+    EXPECT(other->stop().handled, 1);
+}
+
 // A child of a host that waits for what is lent ends, though its copy of the host is destroyed.
 void children_beside_stop(const std::string &folder) {
     static std::shared_ptr<alog::host> host;
@@ -349,6 +400,7 @@ int main(int argc, char **argv) {
 #ifndef HAS_NO_NEW
     handlers_of_memory(argv[1]);
     releases_that_log(argv[1]);
+    releases_beside_ends(argv[1]);
 #endif
     refusals(argv[1]);
     calls_with_clients(argv[1]);
@@ -358,6 +410,7 @@ int main(int argc, char **argv) {
     areas_that_run_out(argv[1]);
 #ifndef IS_SANITIZED
     children(argv[1]);
+    children_that_release(argv[1]);
     children_beside_stop(argv[1]);
 #endif
     return trial_end();

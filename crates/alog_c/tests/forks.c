@@ -28,8 +28,9 @@ static void stop(uint64_t handled)
     EXPECT(host.failures, 0);
 }
 
-/* Waits until the worker sleeps. A child has the locks as they are at its fork, and the memory of some sanitizers looks at no fork: where the
-   worker is in malloc then, which it is while it starts, a child that takes memory waits for ever. */
+/* Waits until the worker sleeps, or is about to and looks for the last time. A child has the locks as they are at its fork, and the memory of some
+   sanitizers looks at no fork: where the worker is in malloc then, as while it starts or writes, a child that takes memory waits for ever. (Behind a
+   log the worker may find the message in that last look, unless it was about to sleep before: then whoever logs wakes it, and it comes here anew.) */
 static void settle(void)
 {
     while (__atomic_load_n(&host.work.sleepers, __ATOMIC_SEQ_CST) == 0)
@@ -65,6 +66,7 @@ static void refused(const char *folder)
     int status = 0;
     pid_t child;
     start(folder);
+    settle();
     EXPECT(alog_log_wait(&client, 0, ALOG_INFO, "before", 6), ALOG_DONE);
     settle();
     child = fork();
