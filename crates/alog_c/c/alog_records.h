@@ -46,12 +46,12 @@ static inline enum alog_deed alog_deed_of(uint32_t number)
     return ALOG_CAST(enum alog_deed, number);
 }
 
-/* The number at these four bytes. */
+/* The number at these four bytes, the lowest first. (Of shifts compilers make one load, of products gcc does not.) */
 static inline uint32_t alog_number_at(const char *bytes)
 {
     unsigned char own[4];
     memcpy(own, bytes, sizeof own);
-    return own[0] + own[1] * UINT32_C(0x100) + own[2] * UINT32_C(0x10000) + own[3] * UINT32_C(0x1000000);
+    return ALOG_CAST(uint32_t, own[0]) | ALOG_CAST(uint32_t, own[1]) << 8 | ALOG_CAST(uint32_t, own[2]) << 16 | ALOG_CAST(uint32_t, own[3]) << 24;
 }
 
 /* Whether these bytes are the name of a file of a folder. */
