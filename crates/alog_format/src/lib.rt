@@ -1,11 +1,11 @@
 //! Lines: how a message is written out by a pattern, after spdlog's custom formatting.
 //!
 //! `format` appends the line of a message to a `LineBuf`, a block of bytes of fixed capacity, and so does a `Formatter`,
-//! which works the date out once in a second, and what hangs on name and level alone once for lines that have both in
-//! common. The model of a buffer is a list with a capacity; the line is the joined texts of the pattern's items
-//! and a newline (`specs/Line.antt`), each flag's text by a table (`specs/Text.antt`). Every writer goes up to an end, so
-//! a text that is cut is never longer in the buffer than its width, and a buffer with room for the pattern's longest line
-//! is never too short.
+//! which works the date out once in a second, and remembers, for 16 pairs of a name and a level, the text of the first items
+//! in a row that hang on these two alone, where it has at most 128 bytes. The model of a buffer is a list with a capacity;
+//! the line is the joined texts of the pattern's items and a newline (`specs/Line.antt`), each flag's text by a table
+//! (`specs/Text.antt`). Every writer goes up to an end, so a text that is cut is never longer in the buffer than its width,
+//! and a buffer with room for the pattern's longest line is never too short.
 //!
 //! Read `line_buf.rt` with `specs/Buffer.antt`, and `block.rt`, the raw block under it, with `specs/Block.antt`,
 //! `specs/Ownership.antt` and `specs/Lends.antt`; `context.rt` and `civil.rt` with `specs/Civil.antt`, `clip.rt` with

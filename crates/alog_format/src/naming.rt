@@ -21,9 +21,9 @@ const NAMED_MAX: usize = 128;
 /// the level of its last line.
 #[derive(Debug, Drop)]
 pub(crate) struct Naming {
-    /// Its last line's name.
+    /// Its last line's name; empty at first.
     pub name: ArrayVec<u8, LOGGER_NAME_MAX>,
-    /// That line's level.
+    /// That line's level; `Off` at first.
     pub level: Level,
     /// How many of the first items are remembered.
     pub count: usize,

@@ -22,7 +22,7 @@ pub(crate) struct Spare {
     pub large: Option<String>,
     pub source: Option<Source>,
     /// A word that nobody reads, which makes this larger than what the C library keeps apart as its smallest pieces: it joins those with what lies
-    /// around them each time that a larger piece comes back, so that to let a queue of blocks go took a fifth longer.
+    /// around them each time that a larger piece comes back, so that to let a queue of blocks go took a quarter to a third longer.
     pub _beside: u64,
 }
 
