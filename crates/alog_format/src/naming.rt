@@ -9,7 +9,7 @@ ghost use Rattle.alog_format.specs.Naming as words;
 use crate::flag_texts::Facts;
 use crate::line_buf::LineBuf;
 use crate::lines::{write_behind, write_items};
-use alog_msg::{LOGGER_NAME_MAX, Level, Message};
+use alog_msg::{LOGGER_NAME_MAX, Level, Message, are_same};
 use alog_pattern::{Flag, Item};
 use arrayvec::ArrayVec;
 use std::array;
@@ -130,21 +130,6 @@ impl Naming {
         };
         line.cut(start);
     }
-}
-
-/// Whether these bytes are those. They are few, and for few a loop of its own takes a third of what `==` of slices does.
-fn are_same(these: &[u8], those: &[u8]) -> bool
-    ensures { IsTrue result → these.now ≡ those.now }
-{
-    if these.len() != those.len() {
-        return false;
-    }
-    for at in 0..these.len() {
-        if these[at] != those[at] {
-            return false;
-        }
-    }
-    true
 }
 
 /// How many slots a formatter has.

@@ -7,7 +7,8 @@
 //!
 //! `limits.rt` has how long texts, fields and names may be. Read `specs/Level.antt` (the table of levels) and
 //! `level.rt`, then `text.rt` (over `short_text.rt`) with `specs/Room.antt`, then `source.rt` with `specs/Source.antt`,
-//! then `message.rt` with `specs/Message.antt`, `item.rt`, and `block.rt` with `spare.rt` and `specs/Block.antt`.
+//! then `message.rt` with `specs/Message.antt`, `item.rt`, and `block.rt` with `spare.rt` and `specs/Block.antt`. `same.rt`
+//! compares names.
 #![tactic(auto)]
 
 mod block;
@@ -15,6 +16,7 @@ mod item;
 mod level;
 mod limits;
 mod message;
+mod same;
 mod short_text;
 mod source;
 mod spare;
@@ -28,5 +30,6 @@ pub use limits::{
     TEXT_LIMIT_MIN,
 };
 pub use message::{Message, MessageError};
+pub use same::are_same;
 pub use source::{Source, SourceRef, has_long_field};
 pub use text::Text;

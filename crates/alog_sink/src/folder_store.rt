@@ -5,6 +5,7 @@ ghost use Rattle.alog_sink.specs.Calls.{Counts};
 
 use crate::resume::{AppendError, Resumes};
 use crate::store::{Store, StoreError, counted};
+use alog_msg::are_same;
 use std::alloc::{AllocError, Global};
 use std::fmt::{self, Debug, Formatter};
 use std::fs::{self, OpenOptions};
@@ -122,7 +123,7 @@ impl<R: Files> Folder<R> {
         match self
             .open_files
             .iter()
-            .rposition(|kept| kept.name.as_str() == name)
+            .rposition(|kept| are_same(kept.name.as_bytes(), name.as_bytes()))
         {
             Some(at) => Ok(at),
             None => self.open_file(name),

@@ -4,6 +4,7 @@ ghost use Rattle.std.specs.Option.{option_map};
 ghost use Rattle.alog_sink.specs.Files.{AreSame, appended, removed, renamed, with_file};
 ghost use Rattle.alog_sink.specs.Listed.{files_in, AreInOrder, HasOthers, IsAt};
 
+use alog_msg::are_same;
 use indexmap::IndexMap;
 use std::alloc::{AllocError, Global};
 use std::marker::Model;
@@ -56,7 +57,7 @@ impl SortedFiles {
         ensures place { MatchOption result (files_in self.old name.now ≡ None) (λ at. IsAt self.old at name.now) }
     {
         if let Some((key, _)) = self.map.get_index(self.last) {
-            if key.as_str() == name {
+            if are_same(key.as_bytes(), name.as_bytes()) {
                 return Some(self.last);
             }
         }

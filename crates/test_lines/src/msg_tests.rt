@@ -1,5 +1,7 @@
 //! Levels, texts, messages with their limits and copies, and items.
-use alog_msg::{Item, Level, Message, MessageError, SHORT_TEXT_MAX, Source, SourceRef, Text};
+use alog_msg::{
+    Item, Level, Message, MessageError, SHORT_TEXT_MAX, Source, SourceRef, Text, are_same,
+};
 use std::alloc::{AllocError, Global};
 use std::process::Abort;
 
@@ -102,6 +104,26 @@ fn has_bytes(rt: &impl Abort, text: &Text, bytes: &str, len: usize) {
 fn text_with_its_bytes(rt: HostRuntime) {
     has_bytes(&rt, &text_of(&rt, "né"), "né", 3);
     has_bytes(&rt, &text_of(&rt, ""), "", 0);
+}
+
+/// Names, and whether they are the same.
+const NAMES: [(&str, &str, bool); 8] = [
+    ("", "", true),
+    ("server", "server", true),
+    ("né", "né", true),
+    ("", "s", false),
+    ("server", "serve", false),
+    ("serve", "server", false),
+    ("server", "terver", false),
+    ("server", "servet", false),
+];
+
+#[test]
+fn names_are_compared(rt: HostRuntime) {
+    for (these, those, same) in &NAMES {
+        let found = are_same(these.as_bytes(), those.as_bytes());
+        assert!(rt; found == *same, "{these} and {those}");
+    }
 }
 
 /// What is printed of a text.
