@@ -25,7 +25,7 @@ namespace {
 using Clock = std::chrono::steady_clock;
 
 constexpr std::size_t places = 8192;
-constexpr int each = 250000;
+constexpr std::size_t messages = 1000000; // of all threads, as in spdlog's own bench/async_bench.cpp
 constexpr char pattern[] = "[%Y-%m-%d %H:%M:%S.%e] [%n] [%l] %v";
 
 // spdlog's asynchronous logger, with one thread and the policy that blocks.
@@ -53,12 +53,12 @@ void end(alog::host &host) {
 // The front end alone, which is the same in front of both: the text, the time and the level of each message, which then goes nowhere.
 std::shared_ptr<spdlog::logger> by_none() { return std::make_shared<spdlog::logger>("server", std::make_shared<spdlog::sinks::null_sink_st>()); }
 
-template <typename Logger> void log_all(Logger &logger, int thread) {
+template <typename Logger> void log_all(Logger &logger, int each, int thread) {
     for (int i = 0; i < each; i++)
         logger.info("request {} of client {} served by worker {} in {} microseconds", i, i % 100, thread, 861);
 }
 
-template <typename Logger> void log_timed(Logger &logger, int thread, std::vector<std::int64_t> &times) {
+template <typename Logger> void log_timed(Logger &logger, int each, int thread, std::vector<std::int64_t> &times) {
     for (int i = 0; i < each; i++) {
         const auto start = Clock::now();
         logger.info("request {} of client {} served by worker {} in {} microseconds", i, i % 100, thread, 861);
@@ -79,17 +79,18 @@ void print_times(const std::vector<std::vector<std::int64_t>> &times) {
 
 // Logs by so many threads to this, ends what is behind it, and prints what was measured.
 template <typename Logger, typename End> void run(std::shared_ptr<Logger> to, std::size_t count, bool timed, End end) {
+    const auto each = static_cast<int>(messages / std::max<std::size_t>(count, 1));
     std::vector<std::vector<std::int64_t>> times(count);
     for (auto &own : times)
-        own.reserve(timed ? each : 0);
+        own.reserve(timed ? static_cast<std::size_t>(each) : 0);
     std::vector<std::thread> threads;
     const auto start = Clock::now();
     for (std::size_t number = 0; number < count; number++)
-        threads.emplace_back([&to, &times, number, timed] {
+        threads.emplace_back([&to, &times, each, number, timed] {
             if (timed)
-                log_timed(*to, static_cast<int>(number), times[number]);
+                log_timed(*to, each, static_cast<int>(number), times[number]);
             else
-                log_all(*to, static_cast<int>(number));
+                log_all(*to, each, static_cast<int>(number));
         });
     for (std::thread &it : threads)
         it.join();

@@ -28,7 +28,7 @@ namespace {
 using Clock = std::chrono::steady_clock;
 
 constexpr std::size_t queue = 8192;
-constexpr int each = 250000;
+constexpr int messages = 1000000; // of all producers, as in spdlog's own bench/async_bench.cpp
 constexpr int offered_messages = 100000;
 const std::string sentence = "request 123 of client 12 served by worker 3 in 861 microseconds";
 
@@ -123,7 +123,7 @@ std::shared_ptr<spdlog::logger> logger_on(const std::string &store) {
 }
 
 int run(const std::string &store, const std::string &pattern, int producers, std::size_t length, const std::string &how) {
-    Order order{each, std::chrono::nanoseconds(0), text_of(length), how != "rate"};
+    Order order{messages / std::max(producers, 1), std::chrono::nanoseconds(0), text_of(length), how != "rate"};
     const int offered = order.timed ? std::stoi(how) : 0;
     if (offered > 0) {
         order.count = offered_messages / producers;

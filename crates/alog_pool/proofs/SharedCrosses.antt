@@ -36,6 +36,7 @@ use Rattle.alog_sink.specs.contracts.turn.Served as Served
 use Rattle.alog_sink.specs.contracts.turn.SinkTurn.TheImpl as Turn
 use Rattle.alog_sink.specs.declared.store.Store.{Ghosts}
 use Rattle.alog_pool.specs.contracts.gaps.Gaps as Gaps
+use Rattle.alog_pool.specs.contracts.item_wait.RestPace as RestPace
 use Rattle.alog_pool.specs.contracts.sink_seat.SinkSeat as SinkSeat
 use Rattle.alog_pool.specs.contracts.sink_seat.SinkSeat.TheInside as SinkSeatInside
 use Rattle.alog_pool.specs.contracts.worker.Worker as Worker
@@ -90,6 +91,10 @@ option_block_send = search (sendable, block_send) depth 9
 pace_send : IsSend (Pace.the_field).row
 pace_send = struct_send (shape Pace.the_type)
     (search sendable, (search sendable, (search sendable, (search sendable, (ticket_send, tt)))))
+
+rest_pace_send : IsSend (RestPace.the_field).row
+rest_pace_send = struct_send (shape RestPace.the_type)
+    (search sendable, (search sendable, (search sendable, (search sendable, tt))))
 
 producer_inside_send : IsSend ProducerInside.the_row
 producer_inside_send = recorded_send (ProducerInside.the_field).row _ _ (ProducerInside.the_type).to_one (struct_send
@@ -153,7 +158,7 @@ module _ (S : RattleType) (g : Ghosts S.Denot) where
                 (
                   search sendable,
                   (
-                    search sendable,
+                    rest_pace_send,
                     (
                       Vec-send u64 (search sendable),
                       (search sendable, (search sendable, (option_gaps_send, tt))),

@@ -51,7 +51,7 @@ mod works;
 pub use error::{ProducerError, ProducersOut, StartError};
 pub use gaps::{Gaps, gap_text};
 pub use gate::{Gate, OpenGate};
-pub use item_wait::ItemWait;
+pub use item_wait::{ItemWait, RestPace};
 pub use pool::{PRODUCERS_MAX, Pool, WORKERS_MAX, queue_of, two_blocks};
 pub use producer::Producer;
 pub use report::{Report, Totals};

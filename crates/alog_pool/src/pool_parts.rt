@@ -22,6 +22,7 @@ ghost use Rattle.alog_sink.specs.Sinks.{Suits};
 use crate::backtrace_seat::BacktraceSeat;
 use crate::gaps::{Gaps, gaps_from};
 use crate::gate::Gate;
+use crate::item_wait::RestPace;
 use crate::pool::Pool;
 use crate::report::Blank;
 use crate::setup::Setup;
@@ -247,6 +248,7 @@ impl<S: Store + Drop + Send + 'static> PoolParts<S> {
             tickets,
             gaps,
         } = tools;
+        let pace = RestPace::new(self.workers as u32, shared.ring.places());
         Ok(Worker {
             shared,
             pass,
@@ -254,7 +256,7 @@ impl<S: Store + Drop + Send + 'static> PoolParts<S> {
             sink_seats,
             line,
             number,
-            workers: self.workers as u32,
+            pace,
             tickets,
             most: self.tickets_max,
             handled: 0,

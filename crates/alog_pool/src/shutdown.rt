@@ -163,7 +163,7 @@ fn collect<R: Threads, S: Store + Drop + Send + 'static>(
             sink_seats: places,
             line: _,
             number: _,
-            workers: _,
+            pace: _,
             tickets: noted,
             most: _,
             handled,

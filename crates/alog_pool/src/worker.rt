@@ -14,7 +14,7 @@ ghost use Rattle.alog_ring.specs.declared.pop.PopError.TheVariants.{Idle};
 
 use crate::gaps::{Gaps, tell_gap};
 use crate::gate::Gate;
-use crate::item_wait::ItemWait;
+use crate::item_wait::{ItemWait, RestPace};
 use crate::shared::{QueuePass, Shared};
 use crate::sink_seat::SinkSeat;
 use alog_core::TICKET_END;
@@ -36,8 +36,8 @@ pub struct Worker<S: Store> {
     pub sink_seats: Vec<SinkSeat<S>>,
     pub line: LineBuf,
     pub number: u32,
-    /// Of how many workers.
-    pub workers: u32,
+    /// How long it rests where the queue is idle.
+    pub pace: RestPace,
     /// The tickets of its first texts and flushes, for which there is room.
     pub tickets: Vec<u64>,
     pub most: usize,
@@ -73,7 +73,7 @@ impl<S: Store> Worker<S> {
             rt,
             &self.shared,
             &mut self.pass,
-            self.workers,
+            &mut self.pace,
             &mut self.block,
             &mut self.sink_seats,
             &mut self.line,
@@ -209,7 +209,7 @@ fn take_waiting<S: Store, R: Wait + Clock>(
     rt: &R,
     shared: &Shared,
     pass: &mut QueuePass,
-    workers: u32,
+    pace: &mut RestPace,
     block: &mut Block,
     sink_seats: &mut Vec<SinkSeat<S>>,
     line: &mut LineBuf,
@@ -226,16 +226,19 @@ fn take_waiting<S: Store, R: Wait + Clock>(
     ensures places { places_of sink_seats.new.items ≡ places_of sink_seats.old.items }
     ensures line { line.new.capacity ≡ LINE_MAX }
 {
-    let mut pause = ItemWait::new(workers);
+    let mut pause = ItemWait::new();
     for _ in rt.forever() {
         match shared.ring.pop_swap_into(pass, block) {
-            Ok(ticket) => return Some(ticket),
+            Ok(ticket) => {
+                pace.count();
+                return Some(ticket);
+            }
             Err(error) => {
                 flush_if_idle(rt, error, sink_seats, line);
                 if is_end(error) {
                     return None;
                 }
-                pause.after(rt, error);
+                pause.after(rt, pace, error);
             }
         }
     }

@@ -13,7 +13,7 @@ use alog_format::LineBuf;
 use alog_msg::{Block, Item, Level};
 use alog_pattern::LINE_MAX;
 use alog_policy::LossBook;
-use alog_pool::{OpenGate, Queue, QueuePass, Shared, Worker};
+use alog_pool::{OpenGate, Queue, QueuePass, RestPace, Shared, Worker};
 use alog_registry::{Loggers, TextLimit};
 use alog_ring::SwapRing;
 use alog_sink::MemStore;
@@ -137,7 +137,7 @@ fn worker(
         sink_seats: Vec::new(alloc),
         line: LineBuf::new(alloc, LINE_MAX)?,
         number: 0,
-        workers: 1,
+        pace: RestPace::new(1, 8_192),
         tickets: Vec::with_capacity(alloc, 4)?,
         most: 4,
         handled: 0,
@@ -162,6 +162,13 @@ fn has_handled(rt: &impl Abort, handled: u64, tickets: &[u64]) {
     assert!(rt; handled == 1 && tickets == [0].as_slice());
 }
 
+// It counted what it took, the text and the stop: with two items more there are as many as make the next rest longer.
+fn has_counted(rt: &impl Abort, mut pace: RestPace) {
+    pace.count();
+    pace.count();
+    assert!(rt; pace.next_spins() == 128);
+}
+
 // The same, of a pool with one logger.
 fn shared_of(rt: &impl Abort, alloc: Global, ring: Queue) -> Result<Arc<Shared>, Fail>
     ensures { IfOk result (λ s. (arc_value s).ring ≡ ring) }
@@ -184,6 +191,7 @@ fn works(
     let same = Arc::try_clone(shared)?;
     let worker = worker(rt, alloc, same, pass)?.work(rt, &OpenGate);
     has_handled(rt, worker.handled, worker.tickets.as_slice());
+    has_counted(rt, worker.pace);
     Ok(())
 }
 

@@ -2,8 +2,8 @@
 use crate::lines::{PATTERN, TEXT};
 use anyhow::{Context, Result, bail};
 
-/// The messages of each producer, where as many are logged as go.
-const EACH: u32 = 250_000;
+/// The messages of all producers, where as many are logged as go: so many spdlog's own measurement of its asynchronous logger makes.
+const MESSAGES: u32 = 1_000_000;
 
 /// The messages of all producers, where so many are offered in a second.
 const OFFERED: u32 = 100_000;
@@ -110,7 +110,7 @@ pub fn case_of<'a>(
     let text = text_of(length)?;
     let order = match how {
         "rate" => Order {
-            count: EACH,
+            count: share_of(MESSAGES, producers),
             gap: 0,
             figure: Figure::Rate,
         },
@@ -136,12 +136,17 @@ fn text_of(length: &str) -> Result<&'static str> {
     }
 }
 
+/// How many messages each of so many producers logs, where all log so many.
+fn share_of(messages: u32, producers: u32) -> u32 {
+    messages.checked_div(producers).unwrap_or(0)
+}
+
 /// The order of each of so many producers that offer so many messages in a second, or as many as go where that is 0.
 fn timed(offered: u32, producers: u32) -> Order {
     let all = SECOND.saturating_mul(u64::from(producers));
     let (count, gap) = match all.checked_div(u64::from(offered)) {
-        Some(gap) => (OFFERED.checked_div(producers).unwrap_or(0), gap),
-        None => (EACH, 0),
+        Some(gap) => (share_of(OFFERED, producers), gap),
+        None => (share_of(MESSAGES, producers), 0),
     };
     Order {
         count,
