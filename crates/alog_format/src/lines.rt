@@ -102,8 +102,30 @@ pub(crate) fn write_behind(
     ensures written { line.new ≡ appended line.old (flat_map (item_text (shown_by facts.now)) items.now) }
     ensures room_left { length line.new.bytes < line.new.capacity }
 {
-    put(line, known);
-    write_items(line, &items[count..], text_limit, facts);
+    put_some(line, known);
+    write_some(line, &items[count..], text_limit, facts);
+}
+
+/// Appends bytes for which there is room, if there are any.
+fn put_some(line: &mut LineBuf, bytes: &[u8])
+    requires { length line.old.bytes + length bytes.now ≤ line.old.capacity }
+    ensures { line.new ≡ appended line.old bytes.now }
+{
+    if !bytes.is_empty() {
+        put(line, bytes);
+    }
+}
+
+/// Appends the texts of items in order as `write_items` does, if there are any.
+fn write_some(line: &mut LineBuf, items: &[Item], text_limit: usize, facts: &Facts<'_>)
+    requires showable { IsShowable text_limit (shown_by facts.now) }
+    requires room { length line.old.bytes + sum_by (item_len text_limit) items.now < line.old.capacity }
+    ensures written { line.new ≡ appended line.old (flat_map (item_text (shown_by facts.now)) items.now) }
+    ensures room_left { length line.new.bytes < line.new.capacity }
+{
+    if !items.is_empty() {
+        write_items(line, items, text_limit, facts);
+    }
 }
 
 /// Appends the text of an item.

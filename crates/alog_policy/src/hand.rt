@@ -82,7 +82,7 @@ fn post_hand_blocking<B: Drop, T, W: Shows<B, T>, L: Limit<B>>(
         match push_hand(port) {
             Ok(ticket) => return Outcome::Posted { ticket, overran: 0 },
             Err(PushError::Full { value: (), next }) => room.wait(rt, port.pace, next),
-            Err(PushError::Busy { value: (), seen: _ }) => room.give_way(),
+            Err(PushError::Busy { value: (), seen: _ }) => room.give_way(rt, port.pace),
             Err(PushError::Spent { value: () }) => {
                 port.count_discarded();
                 return Outcome::Discarded {

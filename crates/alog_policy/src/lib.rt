@@ -12,8 +12,8 @@
 //! `specs/Desk.antt` for the desk, and `specs/Runs.antt` for what is true of whole runs; then `policy.rt`, `progress.rt`,
 //! `outlet.rt` and `posting.rt` (`post_now`), `desk.rt` with `following.rt` (what follows in a post after a step of it),
 //! and `desk_outlet.rt` with `rounds.rt` (rounds whose steps are made at once); `port.rt` with `specs/Port.antt`,
-//! `swap_port.rt` with `specs/SwapPort.antt`, `waiting.rt` (`post_wait`) with `room_wait.rt` (how it waits), and `hand.rt`
-//! (`post_hand` and `post_hand_now`, which post the block in a port's hand).
+//! `swap_port.rt` with `specs/SwapPort.antt`, `waiting.rt` (`post_wait`) with `room_wait.rt` and `spin.rt` (how it waits), and
+//! `hand.rt` (`post_hand` and `post_hand_now`, which post the block in a port's hand).
 //!
 //! Of the loss book contracts see one history of adds, each with its seat; what `counts` and `close` answer are sums of
 //! such histories. Read `specs/BookAdds.antt` and `specs/BookCalls.antt`, then `loss_book.rt` (a book, adds and counts),
@@ -41,6 +41,7 @@ mod posting;
 mod progress;
 mod room_wait;
 mod rounds;
+mod spin;
 mod swap_port;
 mod waiting;
 
@@ -59,6 +60,7 @@ pub use post::{Post, Stepped};
 pub use posting::post_now;
 pub use progress::{Lost, Progress, Side};
 pub use room_wait::{Pace, RoomWait};
+pub use spin::spin_for;
 pub use swap_port::SwapPort;
 pub use waiting::{post_from, post_wait};
 

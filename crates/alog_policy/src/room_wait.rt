@@ -1,4 +1,5 @@
 //! How a post waits for room.
+use crate::spin::spin_for;
 use crossbeam_utils::Backoff;
 use std::thread;
 use std::time::{Clock, Duration};
@@ -6,6 +7,11 @@ use std::time::{Clock, Duration};
 /// A post that finds no room spins so many steps of the backoff first: a place that gets free at once costs no call of the
 /// system.
 const ROOM_SPINS: u32 = 4;
+
+/// A post that another was faster than lets it get on for so many nanoseconds at first. Who is beaten looks at the words of the ring
+/// at the same time as another, and both take them from each other at each look; meanwhile ten to thirty posts of the other are
+/// through. On a queue of fewer than 160 places it takes as long as the shortest rest.
+const FIRST_WAY: u64 = 2_500;
 
 /// Then it rests. The first rest takes so many nanoseconds for each place of the queue, in which a worker makes some half of
 /// them free.
@@ -112,6 +118,8 @@ impl Pace {
 pub struct RoomWait {
     backoff: Backoff,
     looks: u32,
+    /// Whether another was faster already.
+    was_beaten: bool,
 }
 
 impl RoomWait {
@@ -120,6 +128,7 @@ impl RoomWait {
         RoomWait {
             backoff: Backoff::new(),
             looks: 0,
+            was_beaten: false,
         }
     }
 
@@ -141,9 +150,15 @@ impl RoomWait {
         }
     }
 
-    /// Lets another push get on that was faster.
-    pub(crate) fn give_way(&self) {
-        self.backoff.spin();
+    /// Lets another push get on that was faster: at first for a while that lets it make many, and then a little. The test
+    /// `a_beaten_post_gives_way_once` shows it.
+    pub fn give_way(&mut self, clock: &impl Clock, pace: &Pace) {
+        if self.was_beaten {
+            self.backoff.spin();
+        } else {
+            self.was_beaten = true;
+            spin_for(clock, FIRST_WAY.min(pace.least));
+        }
     }
 }
 

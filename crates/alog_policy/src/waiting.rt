@@ -80,7 +80,7 @@ fn post_blocking<O: Outlet>(
         match outlet.push_from(hand) {
             Ok(ticket) => return Outcome::Posted { ticket, overran: 0 },
             Err(PushError::Full { value: (), next }) => room.wait(rt, &mut pace, next),
-            Err(PushError::Busy { value: (), seen: _ }) => room.give_way(),
+            Err(PushError::Busy { value: (), seen: _ }) => room.give_way(rt, &pace),
             Err(PushError::Spent { value: () }) => {
                 outlet.count_discarded();
                 return Outcome::Discarded {

@@ -1,8 +1,9 @@
 //! How a worker waits for an item.
+use alog_policy::spin_for;
 use alog_ring::PopError;
 use crossbeam_utils::Backoff;
+use std::thread;
 use std::time::{Clock, Duration};
-use std::{hint, thread};
 
 /// A worker that finds an item on its way looks again at once, so many times: its producer has only to write it. A producer
 /// that has not written it by then was most likely preempted, and a worker that went on could keep it from a processor: from
@@ -12,14 +13,14 @@ const LOOKS: u32 = 100;
 /// A worker that finds the queue idle rests so many times first: an item that comes meanwhile costs no call of the system.
 const RESTS: u32 = 7;
 
-/// Each of these rests is at least so many spins, some microseconds, and no longer where items are few: who waits for one has it soon.
-const SHORTEST_REST: u32 = 64;
+/// Each of these rests takes at least so many nanoseconds, and no more where items are few: who waits for one has it soon.
+const SHORTEST_REST: u64 = 1_500;
 
-/// And at most so many, some 25 to 50 microseconds.
-const LONGEST_REST: u32 = 1_024;
+/// And at most so many.
+const LONGEST_REST: u64 = 24_000;
 
-/// But at most one for so many places, so that a queue of few places does not fill up meanwhile.
-const PLACES_PER_SPIN: usize = 4;
+/// But at most so many for each place, so that a queue of few places does not fill up meanwhile.
+const REST_PER_PLACE: u64 = 6;
 
 /// Fewer items than this since the last rest are few.
 const FEW_ITEMS: u32 = 4;
@@ -41,15 +42,16 @@ const ITEM_NAP_MAX: u64 = 4_000;
 ///
 /// A worker that is quicker than the producers finds the queue idle again and again, and one that looked again at once would be right
 /// behind each item: it and its producer would wait for the same lines of the cache, message by message. Behind a longer rest many
-/// items lie there, and the producers are as far ahead. So a rest is twice as long as the last one, up to 1,024 spins, as long as
-/// some items came since then, but not enough; and where few came it is short, 64 spins.
+/// items lie there, and the producers are as far ahead. So a rest is twice as long as the last one, up to 24 microseconds, as long
+/// as some items came since then, but not enough; and where few came it is short, 1.5 microseconds. They are microseconds of the clock,
+/// since the pause of a processor takes 5 ns on some and 60 on others.
 ///
 /// No contract says anything of this. The test `rests_follow_the_items` of `test_pool` shows it.
 #[derive(Clone, Copy, Debug)]
 pub struct RestPace {
-    /// The spins of the last rest, and of the longest.
-    spins: u32,
-    most: u32,
+    /// The nanoseconds of the last rest, and of the longest.
+    nanos: u64,
+    most: u64,
     /// Items taken since the last rest, as far as they are counted.
     taken: u32,
     /// The microseconds of the longest sleep.
@@ -59,10 +61,10 @@ pub struct RestPace {
 impl RestPace {
     /// For one of so many workers of a queue of so many places, which has not rested.
     pub fn new(workers: u32, places: usize) -> RestPace {
-        let part = u32::try_from(places / PLACES_PER_SPIN).unwrap_or(LONGEST_REST);
+        let part = REST_PER_PLACE.saturating_mul(places as u64);
         RestPace {
-            spins: SHORTEST_REST,
-            most: part.max(SHORTEST_REST).min(LONGEST_REST),
+            nanos: SHORTEST_REST,
+            most: part.clamp(SHORTEST_REST, LONGEST_REST),
             taken: 0,
             longest_nap: ITEM_NAP_MAX.saturating_mul(workers as u64),
         }
@@ -73,15 +75,15 @@ impl RestPace {
         self.taken = self.taken.saturating_add(1);
     }
 
-    /// The spins of the next rest.
-    pub fn next_spins(&mut self) -> u32 {
+    /// The nanoseconds of the next rest.
+    pub fn next_rest(&mut self) -> u64 {
         if self.taken < FEW_ITEMS {
-            self.spins = SHORTEST_REST;
+            self.nanos = SHORTEST_REST;
         } else if self.taken < ENOUGH_ITEMS {
-            self.spins = self.spins.saturating_mul(2).min(self.most);
+            self.nanos = self.nanos.saturating_mul(2).min(self.most);
         }
         self.taken = 0;
-        self.spins
+        self.nanos
     }
 }
 
@@ -139,7 +141,7 @@ impl ItemWait {
     fn rest(&mut self, clock: &impl Clock, pace: &mut RestPace) {
         self.looks = 0;
         if self.rests < RESTS {
-            spin_for(pace.next_spins());
+            spin_for(clock, pace.next_rest());
         } else if self.rests < RESTS + YIELDS {
             thread::yield_now();
         } else {
@@ -148,12 +150,5 @@ impl ItemWait {
             return;
         }
         self.rests += 1;
-    }
-}
-
-/// Spins so many times.
-fn spin_for(spins: u32) {
-    for _ in 0..spins {
-        hint::spin_loop();
     }
 }

@@ -224,15 +224,22 @@ impl<S: Store + Drop + Send + 'static> PoolParts<S> {
         ensures block { HasBlock self.new }
     {
         let (own, gate) = both_for_one(rt, gate)?;
-        let worker = self.worker(number)?;
+        let pace = self.pace();
+        let worker = self.worker(number, pace)?;
         set_to_work(rt, own, gate, worker)
     }
 
-    /// What one more worker works with.
-    fn worker(&mut self, number: u32) -> Result<Worker<S>, AllocError>
+    /// How long its workers rest.
+    fn pace(&self) -> RestPace
+        requires { self.now.workers ≤ WORKERS_MAX }
+    {
+        RestPace::new(self.workers as u32, self.shared.ring.places())
+    }
+
+    /// What one more worker works with, which rests at this pace.
+    fn worker(&mut self, number: u32, pace: RestPace) -> Result<Worker<S>, AllocError>
         requires stands { (n : ℕ) × Stands n self.old × (n < WORKERS_MAX) }
         requires block { HasBlock self.old }
-        requires workers { self.old.workers ≤ WORKERS_MAX }
         ensures hires { (n : ℕ) → Stands n self.old → n < WORKERS_MAX → IfOk result (λ h. Hires n self.old self.new h) }
         ensures number { IfOk result (λ h. h.number ≡ number) }
         ensures queue { HasQueue self.new }
@@ -248,7 +255,6 @@ impl<S: Store + Drop + Send + 'static> PoolParts<S> {
             tickets,
             gaps,
         } = tools;
-        let pace = RestPace::new(self.workers as u32, shared.ring.places());
         Ok(Worker {
             shared,
             pass,

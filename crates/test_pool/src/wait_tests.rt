@@ -76,21 +76,40 @@ fn rests_longer_beside_others(rt: HostRuntime) {
     has_slept(&rt, &mut wait, &mut pace, &clock, idle, slept);
 }
 
-// How many items are taken from one rest to the next, and the spins of that rest on a queue of 65,536 places, of 2,048 and of 2.
-const RESTS: [(u32, [u32; 3]); 13] = [
-    (0, [64, 64, 64]),
-    (3, [64, 64, 64]),
-    (4, [128, 128, 64]),
-    (127, [256, 256, 64]),
-    (128, [256, 256, 64]),
-    (100_000, [256, 256, 64]),
-    (4, [512, 512, 64]),
-    (4, [1_024, 512, 64]),
-    (127, [1_024, 512, 64]),
-    (128, [1_024, 512, 64]),
-    (3, [64, 64, 64]),
-    (128, [64, 64, 64]),
-    (5, [128, 128, 64]),
+/// A clock that shows 100 ns more at each look, and counts the looks.
+#[derive(Drop)]
+struct Walking {
+    looks: AtomicU64,
+}
+
+impl Clock for Walking {
+    fn monotonic(&self) -> io::Result<Duration> {
+        let looks = self.looks.fetch_add(1, Ordering::SeqCst);
+        Ok(Duration::from_nanos(looks.saturating_mul(100)))
+    }
+
+    fn since_1970(&self) -> io::Result<Duration> {
+        Ok(Duration::ZERO)
+    }
+
+    fn sleep(&self, _duration: Duration) {}
+}
+
+// How many items are taken from one rest to the next, and the nanoseconds of that rest on a queue of 65,536 places, of 2,048 and of 2.
+const RESTS: [(u32, [u64; 3]); 13] = [
+    (0, [1_500, 1_500, 1_500]),
+    (3, [1_500, 1_500, 1_500]),
+    (4, [3_000, 3_000, 1_500]),
+    (127, [6_000, 6_000, 1_500]),
+    (128, [6_000, 6_000, 1_500]),
+    (100_000, [6_000, 6_000, 1_500]),
+    (4, [12_000, 12_000, 1_500]),
+    (4, [24_000, 12_288, 1_500]),
+    (127, [24_000, 12_288, 1_500]),
+    (128, [24_000, 12_288, 1_500]),
+    (3, [1_500, 1_500, 1_500]),
+    (128, [1_500, 1_500, 1_500]),
+    (5, [3_000, 3_000, 1_500]),
 ];
 
 #[test]
@@ -101,11 +120,31 @@ fn rests_follow_the_items(rt: HostRuntime) {
             for _ in 0..items {
                 pace.count();
             }
-            let spins = pace.next_spins();
+            let nanos = pace.next_rest();
             assert!(rt;
-                spins == wanted[number],
-                "{places} places, {items} items: {spins} spins"
+                nanos == wanted[number],
+                "{places} places, {items} items: {nanos} ns"
             );
         }
+    }
+}
+
+// How many items are taken from one rest to the next, and how often a worker has looked at such a clock behind that rest: once at the
+// beginning of each, and then for each 100 ns of it.
+const LOOKS_BEHIND: [(u32, u64); 5] = [(0, 16), (4, 47), (9, 108), (0, 124), (1, 140)];
+
+#[test]
+fn a_rest_takes_its_time(rt: HostRuntime) {
+    let clock = Walking {
+        looks: AtomicU64::new(0),
+    };
+    let (mut wait, mut pace) = (ItemWait::new(), RestPace::new(1, 8_192));
+    for (items, wanted) in LOOKS_BEHIND {
+        for _ in 0..items {
+            pace.count();
+        }
+        wait.after(&clock, &mut pace, PopError::Idle { next: 7 });
+        let looks = clock.looks.load(Ordering::SeqCst);
+        assert!(rt; looks == wanted, "{items} items: {looks} looks");
     }
 }

@@ -166,7 +166,7 @@ fn has_handled(rt: &impl Abort, handled: u64, tickets: &[u64]) {
 fn has_counted(rt: &impl Abort, mut pace: RestPace) {
     pace.count();
     pace.count();
-    assert!(rt; pace.next_spins() == 128);
+    assert!(rt; pace.next_rest() == 3_000);
 }
 
 // The same, of a pool with one logger.

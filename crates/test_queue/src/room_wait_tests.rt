@@ -1,5 +1,5 @@
 //! How a post waits for room.
-use alog_policy::{Pace, RoomWait};
+use alog_policy::{Pace, RoomWait, spin_for};
 use std::io;
 use std::process::Abort;
 use std::sync::atomic::{AtomicU64, Ordering};
@@ -230,5 +230,81 @@ fn a_post_of_many_places_yields_on(rt: HostRuntime) {
             room.wait(&clock, &mut pace, look * 4_096);
         }
         clock.was_asked(&rt, 1, first);
+    }
+}
+
+/// A clock that shows 100 ns more at each look, counts the looks, and fails from the hundredth on.
+#[derive(Drop)]
+struct Walking {
+    looks: AtomicU64,
+}
+
+impl Walking {
+    fn new() -> Walking {
+        Walking {
+            looks: AtomicU64::new(0),
+        }
+    }
+
+    fn looks(&self) -> u64 {
+        self.looks.load(Ordering::SeqCst)
+    }
+}
+
+impl Clock for Walking {
+    fn monotonic(&self) -> io::Result<Duration> {
+        let before = self.looks.fetch_add(1, Ordering::SeqCst);
+        if before < 99 {
+            Ok(Duration::from_nanos(before.saturating_mul(100)))
+        } else {
+            Err(io::Error::from(io::ErrorKind::Other))
+        }
+    }
+
+    fn since_1970(&self) -> io::Result<Duration> {
+        Ok(Duration::ZERO)
+    }
+
+    fn sleep(&self, _duration: Duration) {}
+}
+
+// A spin looks at its beginning, and then until its time has passed, the clock fails, or it has looked once for each four nanoseconds.
+// How many nanoseconds it is to take, and how often the clock was looked at then, in all.
+const SPINS: [(u64, u64); 8] = [
+    (0, 1),
+    (3, 2),
+    (4, 4),
+    (100, 6),
+    (101, 9),
+    (4_000, 50),
+    (9_000, 100),
+    (9_000, 101),
+];
+
+#[test]
+fn a_spin_takes_its_time(rt: HostRuntime) {
+    let clock = Walking::new();
+    for (nanos, wanted) in SPINS {
+        spin_for(&clock, nanos);
+        let looks = clock.looks();
+        assert!(rt; looks == wanted, "{nanos} ns: {looks} looks");
+    }
+    spin_for(&Stopped::new(), 24_000);
+}
+
+// How many places a queue has, and how often a post that another is faster than looks at the clock, the first time: once, and then for
+// each 100 of 2,500 ns, or of the shortest rest.
+const WAYS: [(usize, u64); 5] = [(65_536, 26), (160, 26), (100, 17), (8, 3), (2, 2)];
+
+#[test]
+fn a_beaten_post_gives_way_once(rt: HostRuntime) {
+    for (places, wanted) in WAYS {
+        let (clock, pace) = (Walking::new(), Pace::new(places));
+        let mut room = RoomWait::new();
+        for _ in 0..3 {
+            room.give_way(&clock, &pace);
+            let looks = clock.looks();
+            assert!(rt; looks == wanted, "{places} places: {looks} looks");
+        }
     }
 }

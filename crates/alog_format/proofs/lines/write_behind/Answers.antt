@@ -7,20 +7,20 @@ use Rattle.alog_format.specs.Line.{item_text, shown_by}
 use Rattle.alog_format.proofs.FirstItems.{all_texts, both_written, first_room, rest_is}
 use Rattle.alog_format.proofs.lines.write_behind.Goals as goal
 
-pub put-requires : goal.put-requires
-put-requires c =
+pub put_some-requires : goal.put_some-requires
+put_some-requires c =
     let old = c.args.line.now in
     let fits = first_room c.requires.showable c.args.items.now c.args.count (length old.bytes) old.capacity c.requires.known c.requires.room in
     omega (arith, fits)
 
-pub write_items-requires-clause-room : goal.write_items-requires-clause-room
-write_items-requires-clause-room c =
+pub write_some-requires-clause-room : goal.write_some-requires-clause-room
+write_some-requires-clause-room c =
     let old = c.args.line.now in
     let is = c.args.items.now in
     let fits = first_room c.requires.showable is c.args.count (length old.bytes) old.capacity c.requires.known c.requires.room in
-    let bytes : length c.put.new.line.bytes ≡ length old.bytes + length c.args.known.now =
-    ap (λ (b : Buffer). length b.bytes) c.put.ensures ∙ length-append old.bytes c.args.known.now in
-    let capacity : c.put.new.line.capacity ≡ old.capacity = ap (λ (b : Buffer). b.capacity) c.put.ensures in
+    let bytes : length c.put_some.new.line.bytes ≡ length old.bytes + length c.args.known.now =
+    ap (λ (b : Buffer). length b.bytes) c.put_some.ensures ∙ length-append old.bytes c.args.known.now in
+    let capacity : c.put_some.new.line.capacity ≡ old.capacity = ap (λ (b : Buffer). b.capacity) c.put_some.ensures in
     let left = ap (sum_by (item_len c.args.text_limit)) (rest_is is c.args.count) in
     omega (arith, fits, bytes, capacity, left)
 
@@ -30,8 +30,8 @@ returns-clause-written c =
     let old = c.args.line.now in
     let is = c.args.items.now in
     let behind : List ℕ = flat_map (item_text s) (drop c.args.count is) in
-    let more : c.write_items.new.line ≡ appended c.put.new.line behind =
-    c.write_items.ensures.written ∙ ap (λ (l : List Item). appended c.put.new.line (flat_map (item_text s) l)) (rest_is is c.args.count) in
+    let more : c.write_some.new.line ≡ appended c.put_some.new.line behind =
+    c.write_some.ensures.written ∙ ap (λ (l : List Item). appended c.put_some.new.line (flat_map (item_text s) l)) (rest_is is c.args.count) in
     let joined : c.args.known.now ++ behind ≡ flat_map (item_text s) is =
     ap (λ (l : List ℕ). l ++ behind) c.requires.known ∙ all_texts s is c.args.count in
-    both_written old c.put.new.line c.write_items.new.line c.args.known.now behind c.put.ensures more ∙ ap (appended old) joined
+    both_written old c.put_some.new.line c.write_some.new.line c.args.known.now behind c.put_some.ensures more ∙ ap (appended old) joined
