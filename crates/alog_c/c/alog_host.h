@@ -122,11 +122,11 @@ static inline enum alog_answer alog_host_end(alog_host *host, alog_report *repor
 }
 
 /* Sets how long workers pause, by the places of the queue. What is wrong with a document that is no configuration alog_open says. */
-static inline enum alog_answer alog_spins_look(alog_host *host, const char *document, size_t length)
+static inline enum alog_answer alog_pause_look(alog_host *host, const char *document, size_t length)
 {
     size_t places = 0;
     const enum alog_answer answer = alog_queue_places(document, length, &places);
-    host->spins_most = alog_spins_for(places);
+    host->pause_most = alog_pause_most(places);
     return answer == ALOG_BAD_CONFIG ? ALOG_DONE : answer;
 }
 
@@ -149,7 +149,7 @@ static inline enum alog_answer alog_host_open(alog_host *host, const char *docum
     if (answer == ALOG_DONE)
         answer = alog_sinks_look(host, document, length, folder);
     if (answer == ALOG_DONE)
-        answer = alog_spins_look(host, document, length);
+        answer = alog_pause_look(host, document, length);
     if (answer == ALOG_DONE)
         answer = alog_open(&host->pool, &host->files, document, length, producers, areas, host->told, sizeof host->told);
     return answer;

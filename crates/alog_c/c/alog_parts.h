@@ -63,9 +63,12 @@ enum { ALOG_BATCH = 16, ALOG_ROOM = 2048 };
 /* How often a log is tried, and a worker yields, before they rest, and the nanoseconds that a worker rests which waits for another. */
 enum { ALOG_TRIES = 8, ALOG_YIELDS = 64, ALOG_REST = 100000 };
 
-/* How often a worker that finds nothing pauses, before it sleeps; for how many pause instructions of the processor at the least and at the most, of
-   which 64 take one to three microseconds; below how many messages from one pause to the next are few, and from how many on they are enough. */
-enum { ALOG_PAUSES = 4, ALOG_SPINS_MIN = 64, ALOG_SPINS_MAX = 1024, ALOG_FEW = 4, ALOG_ENOUGH = 128 };
+/* How often a worker that finds nothing pauses, before it sleeps; for how many nanoseconds at the least, at the most, and at the most for each place of
+   the queue; below how many messages from one pause to the next are few, and from how many on they are enough. */
+enum { ALOG_PAUSES = 4, ALOG_PAUSE_MIN = 1500, ALOG_PAUSE_MAX = 24000, ALOG_PAUSE_PLACE = 6, ALOG_FEW = 4, ALOG_ENOUGH = 128 };
+
+/* What a look at a clock and the pause instruction before it take at the least, in nanoseconds. */
+enum { ALOG_LOOK_LEAST = 4 };
 
 /* The file by which a folder is held, which no sink may have, the longest name that a configuration gives a file, and the most sinks that it has. */
 #define ALOG_LOCK ".alog.lock"
@@ -101,8 +104,8 @@ typedef struct alog_seat {
     /* how many messages it ended since it rang for room, and how often it paused since it ended one */
     size_t ended;
     unsigned pauses;
-    /* of how many instructions its last pause was, and how many messages it ended since then */
-    unsigned spins;
+    /* how many nanoseconds its last pause took, and how many messages it ended since then */
+    unsigned pause;
     size_t found;
     /* how many of its turns at sinks were faults, for any thread; it stays there when the worker was given back */
     uint64_t faults;
@@ -165,8 +168,8 @@ typedef struct alog_host {
     /* how many messages a worker ends at most before it takes what it wrote, and before it rings for room */
     size_t batch;
     size_t ring_behind;
-    /* for how many pause instructions a worker pauses at most */
-    unsigned spins_most;
+    /* for how many nanoseconds a worker pauses at most */
+    unsigned pause_most;
     /* how many clients are open, and the producers of those that were closed */
     size_t clients;
     alog_spare *spares;
@@ -286,27 +289,48 @@ static inline void alog_seat_rest(unsigned *yields)
     }
 }
 
-/* For how many pause instructions the workers of a queue of so many places pause at the most: one for each four places, so that a queue of few places
-   does not fill up meanwhile, and as many as the bounds allow. */
-static inline unsigned alog_spins_for(size_t places)
+/* For how many nanoseconds the workers of a queue of so many places pause at the most: so many for each place, so that a queue of few places does not
+   fill up meanwhile, and as many as the bounds allow. */
+static inline unsigned alog_pause_most(size_t places)
 {
-    const unsigned least = ALOG_SPINS_MIN, most = ALOG_SPINS_MAX;
-    const size_t part = places / 4;
-    return part < least ? least : part > most ? most : ALOG_CAST(unsigned, part);
+    const unsigned least = ALOG_PAUSE_MIN, most = ALOG_PAUSE_MAX;
+    const size_t each = ALOG_PAUSE_PLACE;
+    if (places > most / each)
+        return most;
+    return places * each < least ? least : ALOG_CAST(unsigned, places * each);
+}
+
+/* Pauses until so many nanoseconds have passed. What a pause instruction takes is the processor's own, 5 ns on some and 60 on others, so it is the
+   clock that ends this. By one that stands still it looks once for every four of the nanoseconds, and by one that fails no more. */
+static inline void alog_pause_for(unsigned nanos)
+{
+    struct timespec start, now;
+    unsigned looks = nanos / ALOG_LOOK_LEAST;
+    if (clock_gettime(CLOCK_MONOTONIC, &start) != 0)
+        return;
+    for (; looks > 0; looks--) {
+        int64_t seconds;
+        ALOG_PAUSE();
+        if (clock_gettime(CLOCK_MONOTONIC, &now) != 0)
+            return;
+        seconds = now.tv_sec - start.tv_sec;
+        if (seconds * 1000000000 + now.tv_nsec - start.tv_nsec >= ALOG_CAST(int64_t, nanos))
+            return;
+    }
 }
 
 /* Sets how long the next pause of a worker is: the shortest where few messages came since its last one, else twice as long as that as long as not
-   enough come, up to so many instructions. For a worker that is quicker than those who log finds nothing again and again, and one that looked again
+   enough come, up to so many nanoseconds. For a worker that is quicker than those who log finds nothing again and again, and one that looked again
    at once would be right behind them: both would wait for the same lines of the cache, message by message. Behind a longer pause many messages lie
    there, and those who log are as far ahead. */
 static inline void alog_seat_pace(alog_seat *seat, unsigned most)
 {
-    const unsigned least = ALOG_SPINS_MIN;
+    const unsigned least = ALOG_PAUSE_MIN;
     const size_t few = ALOG_FEW, enough = ALOG_ENOUGH;
     if (seat->found < few)
-        seat->spins = least;
-    else if (seat->found < enough && seat->spins < most)
-        seat->spins *= 2;
+        seat->pause = least;
+    else if (seat->found < enough)
+        seat->pause = seat->pause < most / 2 ? seat->pause * 2 : most;
     seat->found = 0;
 }
 
@@ -315,13 +339,11 @@ static inline void alog_seat_pace(alog_seat *seat, unsigned most)
 static inline int alog_seat_pauses(alog_seat *seat, unsigned most)
 {
     const unsigned pauses_most = ALOG_PAUSES;
-    unsigned spins;
     if (seat->pauses == pauses_most)
         return 0;
     seat->pauses++;
     alog_seat_pace(seat, most);
-    for (spins = 0; spins < seat->spins; spins++)
-        ALOG_PAUSE();
+    alog_pause_for(seat->pause);
     return 1;
 }
 

@@ -75,7 +75,7 @@ static inline void *alog_seat_run(void *at)
             continue;
         }
         yields = 0;
-        if (answer == ALOG_DONE || alog_seat_pauses(seat, seat->host->spins_most))
+        if (answer == ALOG_DONE || alog_seat_pauses(seat, seat->host->pause_most))
             continue;
         alog_bell_enter(bell);
         is_ending = __atomic_load_n(&seat->host->is_ending, __ATOMIC_SEQ_CST);
@@ -111,7 +111,7 @@ static inline enum alog_answer alog_seat_start(alog_host *host, alog_seat *seat)
     seat->host = host;
     seat->ended = 0;
     seat->pauses = 0;
-    seat->spins = ALOG_SPINS_MIN;
+    seat->pause = ALOG_PAUSE_MIN;
     seat->found = 0;
     alog_signals_of_worker(&back);
     pthread_sigmask(SIG_SETMASK, &back, &before);

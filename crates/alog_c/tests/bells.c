@@ -2,6 +2,24 @@
 #include "alog_host.h"
 #include "trial.h"
 
+/* While it walks, a clock shows so many nanoseconds more at each look as a step has, counts the looks, and fails behind the last one. */
+static int is_walking;
+static long step = 100, looks, looks_most;
+
+int __real_clock_gettime(clockid_t clock, struct timespec *now);
+int __wrap_clock_gettime(clockid_t clock, struct timespec *now);
+int __wrap_clock_gettime(clockid_t clock, struct timespec *now)
+{
+    if (!is_walking || clock != CLOCK_MONOTONIC)
+        return __real_clock_gettime(clock, now);
+    if (++looks > looks_most)
+        return -1;
+    /* (it begins at the end of a second) */
+    now->tv_sec = 7 + (looks * step + 999999000) / 1000000000;
+    now->tv_nsec = (looks * step + 999999000) % 1000000000;
+    return 0;
+}
+
 enum { ROUNDS = 5000, MANY = 20000, SECONDS = 30 };
 
 static alog_host host;
@@ -78,13 +96,14 @@ static void bounds(const char *folder)
     static const struct {
         size_t places;
         unsigned wanted;
-    } rows[] = {{0, 64}, {2, 64}, {256, 64}, {512, 128}, {2048, 512}, {4096, 1024}, {8192, 1024}, {65536, 1024}};
+    } rows[] = {{0, 1500},     {2, 1500},     {128, 1500},   {256, 1536},  {512, 3072},
+                {2048, 12288}, {4096, 24000}, {8192, 24000}, {65536, 24000}, {SIZE_MAX, 24000}};
     alog_report report;
     size_t row;
     for (row = 0; row < sizeof rows / sizeof rows[0]; row++)
-        EXPECT(alog_spins_for(rows[row].places), rows[row].wanted);
+        EXPECT(alog_pause_most(rows[row].places), rows[row].wanted);
     start(folder, 1024, "block");
-    EXPECT(host.spins_most, 256);
+    EXPECT(host.pause_most, 6144);
     EXPECT(alog_stop(&host, &report), ALOG_DONE);
 }
 
@@ -92,38 +111,68 @@ static void bounds(const char *folder)
 static void paces(void)
 {
     static const struct {
-        unsigned spins, most;
+        unsigned pause, most;
         size_t found;
         unsigned wanted;
     } rows[] = {
-        {64, 1024, 0, 64},        {64, 1024, 3, 64},     {1024, 1024, 3, 64},     {64, 1024, 4, 128},   {64, 1024, 127, 128},
-        {512, 1024, 127, 1024},   {64, 1024, 128, 64},   {512, 1024, 128, 512},   {1024, 1024, 127, 1024}, {256, 256, 127, 256},
-        {1024, 1024, 9999, 1024}, {128, 256, 4, 256},    {64, 64, 100, 64},
+        {1500, 24000, 0, 1500},     {1500, 24000, 3, 1500},    {24000, 24000, 3, 1500},     {1500, 24000, 4, 3000},
+        {1500, 24000, 127, 3000},   {12000, 24000, 127, 24000}, {1500, 24000, 128, 1500},    {12000, 24000, 128, 12000},
+        {24000, 24000, 127, 24000}, {6144, 6144, 127, 6144},   {24000, 24000, 9999, 24000}, {3000, 6144, 4, 6000},
+        {6000, 6144, 4, 6144},      {1500, 1500, 100, 1500},
     };
     static alog_seat seat;
     size_t row;
     for (row = 0; row < sizeof rows / sizeof rows[0]; row++) {
-        seat.spins = rows[row].spins;
+        seat.pause = rows[row].pause;
         seat.found = rows[row].found;
         alog_seat_pace(&seat, rows[row].most);
-        EXPECT(seat.spins, rows[row].wanted);
+        EXPECT(seat.pause, rows[row].wanted);
         EXPECT(seat.found, 0);
     }
 }
 
-/* A worker that finds nothing pauses four times, and then is to sleep. */
+/* How often the clock was looked at behind a pause of so many nanoseconds, in all: at its beginning, and then until its time has passed, the clock
+   fails, or it was looked at once for each four nanoseconds. */
+static void pauses_by_the_clock(void)
+{
+    static const struct {
+        unsigned nanos;
+        long step, wanted;
+    } rows[] = {
+        {0, 100, 1}, {3, 100, 2}, {4, 100, 4}, {100, 100, 6}, {101, 100, 9}, {40, 0, 20}, {4000, 100, 61}, {9000, 100, 100}, {9000, 100, 101},
+    };
+    size_t row;
+    is_walking = 1;
+    looks = 0;
+    looks_most = 99;
+    for (row = 0; row < sizeof rows / sizeof rows[0]; row++) {
+        step = rows[row].step;
+        alog_pause_for(rows[row].nanos);
+        EXPECT(looks, rows[row].wanted);
+    }
+    is_walking = 0;
+}
+
+/* A worker that finds nothing pauses four times, for the shortest time each, and then is to sleep. */
 static void pauses(void)
 {
     static alog_seat seat;
     unsigned i;
-    for (i = 0; i < ALOG_PAUSES; i++)
-        EXPECT(alog_seat_pauses(&seat, ALOG_SPINS_MAX), 1);
-    EXPECT(alog_seat_pauses(&seat, ALOG_SPINS_MAX), 0);
-    EXPECT(seat.spins, ALOG_SPINS_MIN);
+    is_walking = 1;
+    looks = 0;
+    looks_most = 1000000;
+    for (i = 0; i < ALOG_PAUSES; i++) {
+        EXPECT(alog_seat_pauses(&seat, ALOG_PAUSE_MAX), 1);
+        EXPECT(looks, 16 * (i + 1));
+    }
+    EXPECT(alog_seat_pauses(&seat, ALOG_PAUSE_MAX), 0);
+    EXPECT(seat.pause, ALOG_PAUSE_MIN);
     seat.pauses = 0;
     seat.found = ALOG_FEW;
-    EXPECT(alog_seat_pauses(&seat, ALOG_SPINS_MAX), 1);
-    EXPECT(seat.spins, 2 * ALOG_SPINS_MIN);
+    EXPECT(alog_seat_pauses(&seat, ALOG_PAUSE_MAX), 1);
+    EXPECT(seat.pause, 2 * ALOG_PAUSE_MIN);
+    EXPECT(looks, 64 + 31);
+    is_walking = 0;
 }
 
 /* What a worker ended since it paused last is counted, and that it paused is forgotten: on a host whose one worker is this thread. */
@@ -259,6 +308,7 @@ int main(int argc, char **argv)
     too_many_workers(argv[1]);
     bounds(argv[1]);
     paces();
+    pauses_by_the_clock();
     pauses();
     counts(argv[1]);
     rest(argv[1]);
